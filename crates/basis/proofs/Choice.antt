@@ -1,0 +1,26 @@
+-- Laws of tests and choices.
+use mathlib.Core.Bool.{Bool, true, false, cond, not, _&&_, _||_}
+use mathlib.Core.Path.{_≡_, refl}
+
+-- What holds of both answers, each under its test, holds of the choice.
+pub cond-cases {ℓ} : {A : Type ℓ} (P : A → Type 0) (b : Bool) {x y : A} → (b ≡ true → P x) → (b ≡ false → P y) → P (cond b x y)
+cond-cases P true yes· no· = yes· refl
+cond-cases P false yes· no· = no· refl
+
+-- The same for two choices whose tests go one way: where the second test holds, so does the first.
+pub cond-pair {ℓ} : {A : Type ℓ} (P : A → A → Type 0) (b b' : Bool) {x y x' y' : A} →
+    (b ≡ true → b' ≡ true → P x x') →
+    (b ≡ true → b' ≡ false → P x y') →
+    (b ≡ false → b' ≡ true → P y x') →
+    (b ≡ false → b' ≡ false → P y y') →
+    P (cond b x y) (cond b' x' y')
+cond-pair P true true tt· tf ft ff = tt· refl refl
+cond-pair P true false tt· tf ft ff = tf refl refl
+cond-pair P false true tt· tf ft ff = ft refl refl
+cond-pair P false false tt· tf ft ff = ff refl refl
+
+-- A choice between two tests, as the code writes it without a branch.
+pub cond-or : (b x y : Bool) → cond b x y ≡ ((b && x) || (not b && y))
+cond-or true true y = refl
+cond-or true false y = refl
+cond-or false x y = refl

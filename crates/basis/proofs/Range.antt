@@ -1,0 +1,39 @@
+-- Laws of ranges: what a passed test says.
+use Prim.Native.Nat.{ℕ, _≤_}
+use mathlib.Core.Bool.{Bool, true, false, false≢true, _&&_, and-true, and-assoc}
+use mathlib.Core.List.{List, [], _∷_}
+use mathlib.Core.Path.{_≡_, _∙_, refl, sym}
+use borrow.Author.Tests.{leb-true}
+use lib.Dec.{leb}
+use Rattle.basis.specs.Range.{within, everyHolds}
+
+-- Every test of the list is true.
+abbrev pub AllTrue : List Bool → Type 0
+AllTrue [] = Unit {0}
+AllTrue (b ∷ bs) = (b ≡ true) × AllTrue bs
+
+pub and-parts : (a b : Bool) → (a && b) ≡ true → (a ≡ true) × (b ≡ true)
+and-parts true b both = (refl, both)
+and-parts false b both = absurd (false≢true both)
+
+pub everyHolds-all : (bs : List Bool) → everyHolds bs ≡ true → AllTrue bs
+unfolding everyHolds
+everyHolds-all [] passed = tt
+everyHolds-all (b ∷ bs) passed =
+    let parts = and-parts b (everyHolds bs) passed in
+    (parts .0, everyHolds-all bs (parts .1))
+
+-- The tests joined from left to right, as the code writes them.
+abbrev pub chain : Bool → List Bool → Bool
+chain a [] = a
+chain a (b ∷ bs) = chain (a && b) bs
+
+pub chain-every : (a : Bool) (bs : List Bool) → chain a bs ≡ (a && everyHolds bs)
+unfolding everyHolds
+chain-every a [] = sym (and-true a)
+chain-every a (b ∷ bs) = chain-every (a && b) bs ∙ and-assoc a b (everyHolds bs)
+
+pub within-bounds : (low high x : ℕ) → within low high x ≡ true → (low ≤ x) × (x ≤ high)
+within-bounds low high x passed =
+    let parts = and-parts (leb low x) (leb x high) passed in
+    (leb-true low x (parts .0), leb-true x high (parts .1))

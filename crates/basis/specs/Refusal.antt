@@ -1,0 +1,15 @@
+-- "The first that applies is given": refusals are a list of number and test, in document 01's order.
+use Prim.Native.Nat.{ℕ}
+use mathlib.Core.Bool.{Bool, false, cond}
+use mathlib.Core.List.{List, [], _∷_}
+use mathlib.Core.Path.{_≡_}
+
+-- The number of the first refusal whose test holds, or 0 where none does: "refusal (0 accepted)".
+unfoldable pub firstOf : List (ℕ × Bool) → ℕ
+firstOf [] = 0
+firstOf (r ∷ rs) = cond (r .1) (r .0) (firstOf rs)
+
+-- "accepted exactly when none of refusals .. applies to it"
+abbrev pub NoneApplies : List (ℕ × Bool) → Type 0
+NoneApplies [] = Unit {0}
+NoneApplies (r ∷ rs) = (r .1 ≡ false) × NoneApplies rs

@@ -1,0 +1,66 @@
+-- Laws of the buckling length: that its products fit, and how it follows clear height and bearing depth.
+use Prim.Native.Nat.{ℕ, _+_, _*_, _≤_, _<_, max}
+use mathlib.Core.Bool.{Bool, true, false, cond, _&&_}
+use mathlib.Core.Path.{_≡_, _∙_, ap}
+use native.Mathlib.Omega.{arith}
+use native.Mathlib.Nat.{mul-le-mul, mul-pos}
+use borrow.Author.Tests.{eqb-true}
+use lib.Dec.{leb, eqb}
+use Rattle.basis.specs.Fraction.{Fraction, _÷_, whole, _≼_, larger, ceil}
+use Rattle.basis.proofs.Choice.{cond-cases}
+use Rattle.basis.proofs.Fraction.{ceil-larger, ceil-whole}
+use Rattle.basis.proofs.Range.{and-parts}
+use Rattle.storey.specs.declared.StoreyWall.{StoreyWall}
+use Rattle.storey.specs.Range.{inRange}
+use Rattle.storey.specs.BucklingLength.{bearingSuffices, factor, twoSides, threeSides, fourSides, lengthOf, CurvedInputs, LengthInputs, exactLength, bucklingLength}
+use Rattle.storey.proofs.Range.{range-bounds, distance-bounds}
+
+-- Products
+
+module _ (n c k : ℕ) (inputs : CurvedInputs n c k) where
+  pub square-most : c * c ≤ 900000000
+  square-most = mul-le-mul (inputs .distance-most) (inputs .distance-most)
+
+  pub scaled-square-most : n * (c * c) ≤ 1620000000000
+  scaled-square-most = mul-le-mul (inputs .scale-most) square-most
+
+  pub scaled-product-most : n * (c * c) * k ≤ 648000000000000000
+  scaled-product-most = mul-le-mul scaled-square-most (inputs .product-most)
+
+  pub product-square-most : k * k ≤ 160000000000
+  product-square-most = mul-le-mul (inputs .product-most) (inputs .product-most)
+
+-- The denominator on three and four sides is above 0.
+pub sum-of-squares : (m c k : ℕ) → 0 < m → 1 ≤ c → 0 < m * (c * c) + k * k
+sum-of-squares m c k positive least = omega (arith, mul-pos positive (mul-pos least least))
+
+pub three-sides-rounded : (h c k : ℕ) → 1 ≤ c →
+    ceil (threeSides h c k) ≡ max (ceil ((1800 * (c * c) * k) ÷ (3600 * (c * c) + k * k))) (3 * h)
+unfolding threeSides
+three-sides-rounded h c k least =
+    ceil-larger ((1800 * (c * c) * k) ÷ (3600 * (c * c) + k * k)) (whole (3 * h)) (sum-of-squares 3600 c k (omega arith) least) (omega arith)
+    ∙ ap (max (ceil ((1800 * (c * c) * k) ÷ (3600 * (c * c) + k * k)))) (ceil-whole (3 * h))
+
+pub factor-most : (t a : ℕ) → factor t a ≤ 20
+unfolding factor
+factor-most t a =
+    cond-cases (λ r. r ≤ 20) (bearingSuffices t a)
+    (λ _. cond-cases (λ r. r ≤ 20) (leb t 175) (λ _. omega arith) (λ _. cond-cases (λ r. r ≤ 20) (leb t 250) (λ _. omega arith) (λ _. omega arith)))
+    (λ _. omega arith)
+
+module _ (w : StoreyWall) (passed : inRange w ≡ true) where
+  pub product-most : factor (w .thickness) (w .bearing) * w .height ≤ 400000
+  product-most = mul-le-mul (factor-most (w .thickness) (w .bearing)) (range-bounds w passed .height-most)
+
+  pub length-inputs : eqb (w .held) 2 ≡ false → LengthInputs (w .height) (w .distance) (factor (w .thickness) (w .bearing) * w .height)
+  length-inputs further =
+      record {
+        height-most = range-bounds w passed .height-most;
+        distance-least = distance-bounds w passed further .0;
+        distance-most = distance-bounds w passed further .1;
+        product-most = product-most;
+      }
+
+-- A wall held on n sides, n not 2, is held on more than two sides.
+pub held-further : (held n : ℕ) (near : Bool) → (eqb held n && near) ≡ true → eqb n 2 ≡ false → eqb held 2 ≡ false
+held-further held n near both further = rw (eqb-true held n (and-parts (eqb held n) near both .0)) further

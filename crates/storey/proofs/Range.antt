@@ -1,0 +1,51 @@
+-- What a passed range test says of the record.
+use Prim.Native.Nat.{_≤_, _*_}
+use mathlib.Core.Bool.{true, false}
+use mathlib.Core.Path.{_≡_}
+use native.Mathlib.Nat.{mul-le-mul}
+use lib.Dec.{eqb}
+use Rattle.basis.proofs.Range.{chain, chain-every, everyHolds-all, within-bounds}
+use Rattle.storey.specs.declared.StoreyWall.{StoreyWall}
+use Rattle.storey.specs.Range.{ranges, distanceInRange, inRange}
+
+pub in-range-chain : (w : StoreyWall) → chain true (ranges w) ≡ inRange w
+unfolding inRange
+in-range-chain w = chain-every true (ranges w)
+
+-- The bounds that sums and products of the check rely on.
+pub record Bounds (w : StoreyWall) : Type 0 where
+  pub thickness-least : 1 ≤ w .thickness
+  pub thickness-most : w .thickness ≤ 1000
+  pub height-most : w .height ≤ 20000
+  pub length-most : w .length ≤ 20000
+  pub bearing-least : 1 ≤ w .bearing
+  pub bearing-most : w .bearing ≤ w .thickness
+  pub strength-most : w .strength ≤ 5000
+  pub dead-most : w .dead ≤ 10000000
+  pub imposed-most : w .imposed ≤ 10000000
+
+pub range-bounds : (w : StoreyWall) → inRange w ≡ true → Bounds w
+unfolding inRange
+range-bounds w passed =
+    let all = everyHolds-all (ranges w) passed in
+    record {
+      thickness-least = within-bounds 1 1000 (w .thickness) (all .1 .0) .0;
+      thickness-most = within-bounds 1 1000 (w .thickness) (all .1 .0) .1;
+      height-most = within-bounds 1 20000 (w .height) (all .1 .1 .0) .1;
+      length-most = within-bounds 1 20000 (w .length) (all .1 .1 .1 .0) .1;
+      bearing-least = within-bounds 1 (w .thickness) (w .bearing) (all .1 .1 .1 .1 .1 .1 .1 .1 .0) .0;
+      bearing-most = within-bounds 1 (w .thickness) (w .bearing) (all .1 .1 .1 .1 .1 .1 .1 .1 .0) .1;
+      strength-most = within-bounds 1 5000 (w .strength) (all .1 .1 .1 .1 .1 .1 .1 .1 .1 .0) .1;
+      dead-most = within-bounds 1 10000000 (w .dead) (all .1 .1 .1 .1 .1 .1 .1 .1 .1 .1 .1 .0) .1;
+      imposed-most = within-bounds 0 10000000 (w .imposed) (all .1 .1 .1 .1 .1 .1 .1 .1 .1 .1 .1 .1 .0) .1;
+    }
+
+-- Held on more than two sides, the distance is 1..30000.
+pub distance-bounds : (w : StoreyWall) → inRange w ≡ true → eqb (w .held) 2 ≡ false → (1 ≤ w .distance) × (w .distance ≤ 30000)
+unfolding inRange distanceInRange
+distance-bounds w passed further =
+    let all = everyHolds-all (ranges w) passed in
+    within-bounds 1 30000 (w .distance) (rw further at (all .1 .1 .1 .1 .1 .0))
+
+pub area-most : (w : StoreyWall) → inRange w ≡ true → w .length * w .thickness ≤ 20000000
+area-most w passed = mul-le-mul (range-bounds w passed .length-most) (range-bounds w passed .thickness-most)

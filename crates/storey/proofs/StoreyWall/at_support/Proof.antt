@@ -1,0 +1,43 @@
+-- `StoreyWall::at_support` meets its contract: its products fit, and its quotient is the definition's.
+use borrow.Author.Needs.{needs}
+use native.Mathlib.Omega.{arith}
+use Rattle.storey.proofs.Resistance.{strength-bearing-most, support-part-most, support-product-most, support-quotient}
+use Rattle.storey.proofs.StoreyWall.at_support.Statement.{statement}
+use Rattle.storey.proofs.StoreyWall.at_support.Tie as tie
+
+mul-strength-part : tie.Need-mul-strength-part
+mul-strength-part c = search needs
+
+mul-strength-part-2 : tie.Need-mul-strength-part-2
+mul-strength-part-2 c = omega (arith, strength-bearing-most _ _ _ 0 (c .pre) (omega arith))
+
+mul-strength-part-3 : tie.Need-mul-strength-part-3
+mul-strength-part-3 c = omega (arith, support-part-most _ _ _ 0 (c .pre) (omega arith))
+
+support-factor-requires : tie.Need-support-factor-requires
+support-factor-requires c κs = search needs
+
+mul-result : tie.Need-mul-result
+mul-result c = omega (arith, support-product-most _ _ _ _ (c .before .pre) (c .support-factor .ensures .most))
+
+mul-result-2 : tie.Need-mul-result-2
+mul-result-2 c = search needs
+
+div-result : tie.Need-div-result
+div-result c = search needs
+
+returns : tie.Need-returns
+returns c = support-quotient _ _ _ _ _ _ (c .support-factor .ensures .value)
+
+pub at-support-spec : {M : Type 1} → statement M
+at-support-spec =
+    tie.close
+    (tie.spec
+    mul-strength-part
+    mul-strength-part-2
+    mul-strength-part-3
+    support-factor-requires
+    mul-result
+    mul-result-2
+    div-result
+    returns)

@@ -1,0 +1,7 @@
+-- The storey wall of document 01: one file for each of its headings and paragraphs, in its order.
+pub mod Range
+pub mod BucklingLength
+pub mod Resistance
+pub mod Load
+pub mod Limits
+pub mod Check

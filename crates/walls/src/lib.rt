@@ -1,0 +1,8 @@
+// A record of either kind.
+use cellar::CellarWall;
+use storey::StoreyWall;
+
+pub enum Wall {
+    Storey(StoreyWall),
+    Cellar(CellarWall),
+}
