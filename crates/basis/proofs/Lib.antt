@@ -1,4 +1,5 @@
 -- Laws of the definitions, one file for each file of specs/.
+pub mod Check
 pub mod Choice
 pub mod Fraction
 pub mod Load

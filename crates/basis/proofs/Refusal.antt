@@ -25,6 +25,10 @@ and-right : (a b : Bool) → T (a && b) → T b
 and-right true b t = t
 and-right false b t = absurd t
 
+and-both : (a b : Bool) → T a → T b → T (a && b)
+and-both true b left right = right
+and-both false b left right = left
+
 pub firstOf-none : (rs : List (ℕ × Bool)) → NoneApplies rs → firstOf rs ≡ 0
 unfolding firstOf
 firstOf-none [] none = refl
@@ -41,6 +45,12 @@ none-firstOf [] positive accepted = tt
 none-firstOf (r ∷ rs) positive accepted =
     let step = choice-zero (r .1) (r .0) (firstOf rs) (ltb→lt 0 (r .0) (and-left (ltb 0 (r .0)) (numbered rs) positive)) accepted in
     (step .0, none-firstOf rs (and-right (ltb 0 (r .0)) (numbered rs) positive) (step .1))
+
+pub numbered-append : (rs ss : List (ℕ × Bool)) → T (numbered rs) → T (numbered ss) → T (numbered (rs ++ ss))
+numbered-append [] ss first second = second
+numbered-append (r ∷ rs) ss first second =
+    and-both (ltb 0 (r .0)) (numbered (rs ++ ss)) (and-left (ltb 0 (r .0)) (numbered rs) first)
+    (numbered-append rs ss (and-right (ltb 0 (r .0)) (numbered rs) first) second)
 
 -- Refusals in two parts: the second part is asked only where nothing of the first applies.
 

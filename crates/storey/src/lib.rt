@@ -2,6 +2,7 @@
 ghost use mathlib.Core.Bool.{true};
 ghost use mathlib.Core.List.{[], _∷_};
 ghost use mathlib.Core.Path.{_≡_};
+ghost use lib.Dec.{ltb};
 ghost use Prim.Native.Nat.{_+_, _*_};
 ghost use Rattle.basis.specs.Fraction.{_÷_, whole, ceil, floor, times};
 ghost use Rattle.basis.specs.Refusal.{firstOf};
@@ -544,6 +545,16 @@ impl StoreyWall {
 
 // The check.
 impl StoreyWall {
+    // Refusal 13, or 0.
+    fn measure(resistance: u64, load: u64) -> u64
+        ensures { λ number. ⌜ number ≡ firstOf ((13, ltb resistance load) ∷ []) ⌝ }
+    {
+        if resistance < load {
+            return 13;
+        }
+        0
+    }
+
     // The result of a record within every limit: accepted, or refusal 13.
     fn measured(self, length: u64) -> CheckResult
         requires { ⌜ Measured self length ⌝ }
@@ -551,10 +562,8 @@ impl StoreyWall {
     {
         let load = self.load();
         let resistance = self.resistance(length);
-        if resistance < load {
-            return CheckResult::filled(13, length, load as u32, resistance as u32);
-        }
-        CheckResult::filled(0, length, load as u32, resistance as u32)
+        let refusal = StoreyWall::measure(resistance, load);
+        CheckResult::filled(refusal, length, load as u32, resistance as u32)
     }
 
     // The result of any record.
