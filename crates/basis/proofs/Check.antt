@@ -1,9 +1,10 @@
 -- Laws of a check, over any range test, limits, measures and four numbers: which case a record falls in, and what its result is.
 use Prim.Native.Nat.{ℕ, _<_}
-use mathlib.Core.Bool.{Bool, true, false, not, _||_}
+use mathlib.Core.Bool.{Bool, true, false, false≢true, not, _||_}
 use mathlib.Core.List.{List}
 use mathlib.Core.Logic.{_↔_}
-use mathlib.Core.Path.{_≡_, refl, ap}
+use mathlib.Core.Path.{_≡_, _∙_, refl, sym, ap}
+use native.Mathlib.Decide.{ℕ-discrete}
 use borrow.Author.Tests.{not-false, ne-eqb}
 use lib.Dec.{T, eqb}
 use Rattle.basis.specs.declared.CheckResult.{CheckResult}
@@ -47,6 +48,12 @@ module _ (inRange : Bool) (limits measures : List (ℕ × Bool)) where
   unfolding firstOf
   refusal-measured passed none = rw passed (firstOf-second limits measures none)
 
+  limit-unfilled : T (everyNumber (λ n. eqb n 0 || not (fillsAll n)) limits) → (firstOf limits ≡ 0 → ⊥) → fillsAll (firstOf limits) ≡ false
+  limit-unfilled unfilled beyond =
+      let number = firstOf limits in
+      let unfilled-number = firstOf-every (λ n. eqb n 0 || not (fillsAll n)) limits tt unfilled in
+      not-T-false (fillsAll number) (or-other (eqb number 0) (not (fillsAll number)) (ne-eqb number 0 beyond) unfilled-number)
+
   -- Which result
 
   module _ (second N R : ℕ) where
@@ -57,16 +64,24 @@ module _ (inRange : Bool) (limits measures : List (ℕ × Bool)) where
     pub result-limit : T (everyNumber (λ n. eqb n 0 || not (fillsAll n)) limits) → inRange ≡ true → (firstOf limits ≡ 0 → ⊥) →
         resultOf (firstOf (inOrder inRange limits measures)) second N R ≡ refusedWith (firstOf limits)
     unfolding resultOf
-    result-limit unfilled passed beyond =
-        let number = firstOf limits in
-        let unfilled-number = firstOf-every (λ n. eqb n 0 || not (fillsAll n)) limits tt unfilled in
-        rw (refusal-limit passed beyond, not-T-false (fillsAll number) (or-other (eqb number 0) (not (fillsAll number)) (ne-eqb number 0 beyond) unfilled-number))
+    result-limit unfilled passed beyond = rw (refusal-limit passed beyond, limit-unfilled unfilled beyond)
 
     pub result-measured : T (everyNumber fillsAll measures) → inRange ≡ true → NoneApplies limits →
         resultOf (firstOf (inOrder inRange limits measures)) second N R ≡ filledWith (firstOf measures) second N R
     unfolding resultOf
     result-measured filling passed none =
         rw (refusal-measured passed none, T-true (fillsAll (firstOf measures)) (firstOf-every fillsAll measures tt filling))
+
+  -- Only a record in range and within every limit has all five numbers filled.
+  pub filled-only : T (numbered limits) → T (everyNumber (λ n. eqb n 0 || not (fillsAll n)) limits) →
+      fillsAll (firstOf (inOrder inRange limits measures)) ≡ true → (inRange ≡ true) × NoneApplies limits
+  filled-only positive unfilled filled = go inRange refl (ℕ-discrete (firstOf limits) 0)
+    where
+      go : (b : Bool) → inRange ≡ b → Dec (firstOf limits ≡ 0) → (inRange ≡ true) × NoneApplies limits
+      go false failed _ = absurd (false≢true (sym (ap fillsAll (refusal-out-of-range failed)) ∙ filled))
+      go true passed (yes none) = (passed, none-firstOf limits positive none)
+      go true passed (no beyond) =
+          absurd (false≢true (sym (limit-unfilled unfilled beyond) ∙ sym (ap fillsAll (refusal-limit passed beyond)) ∙ filled))
 
   -- Accepted exactly when the record is in range and none of the refusals applies.
   pub accepted-exactly : T (numbered limits) → T (numbered measures) →

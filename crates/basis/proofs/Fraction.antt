@@ -6,7 +6,7 @@ use native.Mathlib.Omega.{arith}
 use native.Mathlib.Nat.{mul-le-mul, mul-le-mul-left, mul-le-mul-right, le-of-mul-le-mul-right, lt-of-mul-lt-mul-right, div-mul-le-self, lt-div-mul-add, le-div-iff-mul-le, div-lt-iff-lt-mul, le-antisymm, le-of-eq, mul-pos, le-of-lt, mul-comm, mul-sub, le-mul-of-pos-right, div-add-mod', min-eq-left, min-eq-right, max-eq-left, max-eq-right}
 use borrow.Author.Tests.{leb-true, leb-false}
 use lib.Dec.{leb}
-use Rattle.basis.specs.Fraction.{Fraction, _÷_, whole, _≼_, _≺_, _≈_, times, over, minus, smaller, larger, floor, ceil}
+use Rattle.basis.specs.Fraction.{Fraction, _÷_, whole, _≼_, _≺_, _≈_, times, over, minus, smaller, larger, floor, ceil, LeastAtOrAbove, LessThanOneBelow}
 use Rattle.basis.proofs.Choice.{cond-cases}
 
 -- Order
@@ -51,6 +51,9 @@ ceil-close f pos = omega (arith, div-mul-le-self (f .num + (f .den - 1)) (f .den
 pub ceil-whole : (n : ℕ) → ceil (whole n) ≡ n
 ceil-whole n = le-antisymm (ceil-least (whole n) n (omega arith) (omega arith)) (omega (arith, ceil-above (whole n) (omega arith)))
 
+pub ceil-rounds-up : (f : Fraction) → 0 < f .den → LeastAtOrAbove (ceil f) f
+ceil-rounds-up f pos = record { at-or-above = ceil-above f pos; least = λ m above. ceil-least f m pos above }
+
 -- Rounding down
 
 pub floor-below : (f : Fraction) → whole (floor f) ≼ f
@@ -76,6 +79,9 @@ floor-most f m pf below =
 
 pub floor-equal : (f g : Fraction) → 0 < f .den → 0 < g .den → f ≈ g → floor f ≡ floor g
 floor-equal f g pf pg same = le-antisymm (floor-mono f g pf pg (≈-≼ f g same)) (floor-mono g f pg pf (≈-≽ f g same))
+
+pub floor-rounds-down : (f : Fraction) → 0 < f .den → LessThanOneBelow (floor f) f
+floor-rounds-down f pos = record { at-most = floor-below f; less-than-one-below = floor-close f pos }
 
 -- The smaller and the larger
 

@@ -53,3 +53,15 @@ floor f = f .num / f .den
 -- "rounded up"
 unfoldable pub ceil : Fraction → ℕ
 ceil f = (f .num + (f .den - 1)) / f .den
+
+-- What "rounded up" and "rounded down" promise of a whole number.
+
+-- The least whole number at or above f.
+pub record LeastAtOrAbove (n : ℕ) (f : Fraction) : Type 0 where
+  pub at-or-above : f ≼ whole n
+  pub least : (m : ℕ) → f ≼ whole m → n ≤ m
+
+-- At most f, and less than 1 below it.
+pub record LessThanOneBelow (n : ℕ) (f : Fraction) : Type 0 where
+  pub at-most : whole n ≼ f
+  pub less-than-one-below : f ≺ whole (n + 1)

@@ -1,14 +1,14 @@
 -- Laws of the buckling length: that its products fit, and how it follows clear height and bearing depth.
 use Prim.Native.Nat.{ℕ, _+_, _*_, _≤_, _<_, max}
 use mathlib.Core.Bool.{Bool, true, false, cond, _&&_}
-use mathlib.Core.Path.{_≡_, _∙_, ap}
+use mathlib.Core.Path.{_≡_, _∙_, refl, ap}
 use native.Mathlib.Omega.{arith}
 use native.Mathlib.Nat.{mul-le-mul, mul-pos}
 use borrow.Author.Tests.{eqb-true}
 use lib.Dec.{leb, eqb}
 use Rattle.basis.specs.Fraction.{Fraction, _÷_, whole, _≼_, larger, ceil}
 use Rattle.basis.proofs.Choice.{cond-cases}
-use Rattle.basis.proofs.Fraction.{ceil-larger, ceil-whole}
+use Rattle.basis.proofs.Fraction.{ceil-larger, ceil-whole, larger-den}
 use Rattle.basis.proofs.Range.{and-parts}
 use Rattle.storey.specs.declared.StoreyWall.{StoreyWall}
 use Rattle.storey.specs.Range.{inRange}
@@ -64,3 +64,18 @@ module _ (w : StoreyWall) (passed : inRange w ≡ true) where
 -- A wall held on n sides, n not 2, is held on more than two sides.
 pub held-further : (held n : ℕ) (near : Bool) → (eqb held n && near) ≡ true → eqb n 2 ≡ false → eqb held 2 ≡ false
 held-further held n near both further = rw (eqb-true held n (and-parts (eqb held n) near both .0)) further
+
+-- The exact length of a record in range has a denominator above 0.
+pub exact-length-den : (w : StoreyWall) → inRange w ≡ true → 0 < exactLength w .den
+unfolding exactLength lengthOf twoSides threeSides fourSides
+exact-length-den w passed =
+    let c = w .distance in
+    let k = factor (w .thickness) (w .bearing) * w .height in
+    cond-cases (λ (f : Fraction). 0 < f .den) (eqb (w .held) 3 && leb c (15 * w .thickness))
+    (λ three. larger-den ((1800 * (c * c) * k) ÷ (3600 * (c * c) + k * k)) (whole (3 * w .height))
+    (sum-of-squares 3600 c k (omega arith) (distance-bounds w passed (held-further (w .held) 3 (leb c (15 * w .thickness)) three refl) .0)) (omega arith))
+    (λ _. cond-cases (λ (f : Fraction). 0 < f .den) (eqb (w .held) 4 && leb c (30 * w .thickness))
+    (λ four. cond-cases (λ (f : Fraction). 0 < f .den) (leb (w .height) c)
+    (λ _. sum-of-squares 400 c k (omega arith) (distance-bounds w passed (held-further (w .held) 4 (leb c (30 * w .thickness)) four refl) .0))
+    (λ _. omega arith))
+    (λ _. omega arith))

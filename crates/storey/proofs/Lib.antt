@@ -5,3 +5,4 @@ pub mod Resistance
 pub mod Load
 pub mod Limits
 pub mod Check
+pub mod Claims
