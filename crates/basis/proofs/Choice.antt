@@ -1,14 +1,17 @@
 -- Laws of tests and choices.
-use mathlib.Core.Bool.{Bool, true, false, cond, not, _&&_, _||_}
-use mathlib.Core.Path.{_≡_, refl, subst}
-use lib.Dec.{T}
+use Prim.Native.Nat.{ℕ, _≤_}
+use mathlib.Core.Bool.{Bool, true, false, false≢true, cond, not, _&&_, _||_}
+use mathlib.Core.Path.{_≡_, _∙_, refl, sym, subst}
+use native.Mathlib.Omega.{arith}
+use borrow.Author.Tests.{ltb-true, lt-ltb}
+use lib.Dec.{T, ltb}
 
 -- What holds of both answers, each under its test, holds of the choice.
 pub cond-cases {ℓ} : {A : Type ℓ} (P : A → Type 0) (b : Bool) {x y : A} → (b ≡ true → P x) → (b ≡ false → P y) → P (cond b x y)
 cond-cases P true yes· no· = yes· refl
 cond-cases P false yes· no· = no· refl
 
--- The same for two choices whose tests go one way: where the second test holds, so does the first.
+-- The same for two choices, by both tests.
 pub cond-pair {ℓ} : {A : Type ℓ} (P : A → A → Type 0) (b b' : Bool) {x y x' y' : A} →
     (b ≡ true → b' ≡ true → P x x') →
     (b ≡ true → b' ≡ false → P x y') →
@@ -19,6 +22,12 @@ cond-pair P true true tt· tf ft ff = tt· refl refl
 cond-pair P true false tt· tf ft ff = tf refl refl
 cond-pair P false true tt· tf ft ff = ft refl refl
 cond-pair P false false tt· tf ft ff = ff refl refl
+
+-- Two choices by the same test.
+pub cond-same {ℓ} : {A : Type ℓ} (P : A → A → Type 0) (b : Bool) {x y x' y' : A} →
+    (b ≡ true → P x x') → (b ≡ false → P y y') → P (cond b x y) (cond b x' y')
+cond-same P true left right = left refl
+cond-same P false left right = right refl
 
 -- A choice between two tests, as the code writes it without a branch.
 pub cond-or : (b x y : Bool) → cond b x y ≡ ((b && x) || (not b && y))
@@ -36,3 +45,28 @@ not-T-false false _ = refl
 
 pub or-other : (a b : Bool) → a ≡ false → T (a || b) → T b
 or-other a b isnt either = subst (λ (x : Bool). T (x || b)) isnt either
+
+-- One test implies another
+
+abbrev pub Implies : Bool → Bool → Type 0
+Implies x y = x ≡ true → y ≡ true
+
+-- What the second test denies, the first denies.
+pub implies-false : (x y : Bool) → Implies x y → y ≡ false → x ≡ false
+implies-false true y implied isnt = absurd (false≢true (sym isnt ∙ implied refl))
+implies-false false y implied isnt = refl
+
+pub implies-and : (a b x y : Bool) → Implies a x → Implies b y → Implies (a && b) (x && y)
+implies-and true b x y left right both = rw (left refl) (right both)
+implies-and false b x y left right both = absurd (false≢true both)
+
+pub implies-or : (a b x y : Bool) → Implies a x → Implies b y → Implies (a || b) (x || y)
+implies-or true b x y left right either = rw (left refl)
+implies-or false b true y left right either = refl
+implies-or false b false y left right either = right either
+
+pub above-grows : (n a b : ℕ) → a ≤ b → Implies (ltb n a) (ltb n b)
+above-grows n a b more above = lt-ltb n b (omega (arith, ltb-true n a above))
+
+pub below-falls : (n a b : ℕ) → b ≤ a → Implies (ltb a n) (ltb b n)
+below-falls n a b less below = lt-ltb b n (omega (arith, ltb-true a n below))

@@ -3,7 +3,7 @@ use Prim.Native.Nat.{ℕ, _≤_}
 use mathlib.Core.Bool.{Bool, true, false, false≢true, _&&_, and-true, and-assoc}
 use mathlib.Core.List.{List, [], _∷_}
 use mathlib.Core.Path.{_≡_, _∙_, refl, sym}
-use borrow.Author.Tests.{leb-true}
+use borrow.Author.Tests.{leb-true, le-leb}
 use lib.Dec.{leb}
 use Rattle.basis.specs.Range.{within, everyHolds}
 
@@ -23,6 +23,11 @@ everyHolds-all (b ∷ bs) passed =
     let parts = and-parts b (everyHolds bs) passed in
     (parts .0, everyHolds-all bs (parts .1))
 
+pub all-everyHolds : (bs : List Bool) → AllTrue bs → everyHolds bs ≡ true
+unfolding everyHolds
+all-everyHolds [] all = refl
+all-everyHolds (b ∷ bs) all = rw (all .0) (all-everyHolds bs (all .1))
+
 -- The tests joined from left to right, as the code writes them.
 abbrev pub chain : Bool → List Bool → Bool
 chain a [] = a
@@ -37,3 +42,6 @@ pub within-bounds : (low high x : ℕ) → within low high x ≡ true → (low �
 within-bounds low high x passed =
     let parts = and-parts (leb low x) (leb x high) passed in
     (leb-true low x (parts .0), leb-true x high (parts .1))
+
+pub bounds-within : (low high x : ℕ) → low ≤ x → x ≤ high → within low high x ≡ true
+bounds-within low high x least most = rw (le-leb low x least) (le-leb x high most)

@@ -41,12 +41,13 @@ three-sides-rounded h c k least =
     ceil-larger ((1800 * (c * c) * k) ÷ (3600 * (c * c) + k * k)) (whole (3 * h)) (sum-of-squares 3600 c k (omega arith) least) (omega arith)
     ∙ ap (max (ceil ((1800 * (c * c) * k) ÷ (3600 * (c * c) + k * k)))) (ceil-whole (3 * h))
 
+pub thickness-factor-most : (t : ℕ) → cond (leb t 175) 15 (cond (leb t 250) 18 20) ≤ 20
+thickness-factor-most t =
+    cond-cases (λ r. r ≤ 20) (leb t 175) (λ _. omega arith) (λ _. cond-cases (λ r. r ≤ 20) (leb t 250) (λ _. omega arith) (λ _. omega arith))
+
 pub factor-most : (t a : ℕ) → factor t a ≤ 20
 unfolding factor
-factor-most t a =
-    cond-cases (λ r. r ≤ 20) (bearingSuffices t a)
-    (λ _. cond-cases (λ r. r ≤ 20) (leb t 175) (λ _. omega arith) (λ _. cond-cases (λ r. r ≤ 20) (leb t 250) (λ _. omega arith) (λ _. omega arith)))
-    (λ _. omega arith)
+factor-most t a = cond-cases (λ r. r ≤ 20) (bearingSuffices t a) (λ _. thickness-factor-most t) (λ _. omega arith)
 
 module _ (w : StoreyWall) (passed : inRange w ≡ true) where
   pub product-most : factor (w .thickness) (w .bearing) * w .height ≤ 400000

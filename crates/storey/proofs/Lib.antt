@@ -6,3 +6,4 @@ pub mod Load
 pub mod Limits
 pub mod Check
 pub mod Claims
+pub mod Comparison

@@ -1,0 +1,2 @@
+-- Proofs of the claims of specs/.
+pub mod Comparison
