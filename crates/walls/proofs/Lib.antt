@@ -1,2 +1,5 @@
 -- Proofs of the claims of specs/.
 pub mod Comparison
+pub mod Computes
+pub mod MarkedFigures
+pub mod FalseReadings

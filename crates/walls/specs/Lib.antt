@@ -1,3 +1,6 @@
--- A record of either kind: its check, the marked figures, false readings, and the comparison of records.
+-- A record of either kind: its check, the comparison of records, the marked figures, and the readings that are false.
 pub mod Check
 pub mod Comparison
+pub mod Examples
+pub mod MarkedFigures
+pub mod FalseReadings
