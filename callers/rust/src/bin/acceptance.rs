@@ -1,0 +1,175 @@
+//! Runs the acceptance cases against the library: each line, each storey record as a worksheet row too, and each row,
+//! alone and into lent buffers of several lengths.
+//!
+//!     WALLCHECK_LIB_DIR=.. cargo run --release --bin acceptance
+
+use std::process::exit;
+use std::ptr::{null, null_mut};
+use wallcheck::{check_line, check_line_into, check_row, check_row_into, raw, Cells, CheckResult};
+
+const LINES: &str = include_str!("../../../cases.txt");
+const ROWS: &str = include_str!("../../../rows.txt");
+const OUT_LENGTHS: [usize; 4] = [0, 63, 64, 100];
+const FILL: u8 = 0xA5;
+
+#[derive(Default)]
+struct Tally {
+    agreed: u64,
+    different: u64,
+}
+
+impl Tally {
+    fn count(&mut self, what: &str, line: &str, agrees: bool) {
+        if agrees {
+            self.agreed += 1;
+        } else {
+            self.different += 1;
+            eprintln!("rust: {what} differs: {line}");
+        }
+    }
+
+    /// Compares what `write` hands back and leaves in a lent buffer of each length.
+    fn count_into(
+        &mut self,
+        what: &str,
+        line: &str,
+        expected: CheckResult,
+        write: impl Fn(&mut [u8]) -> CheckResult,
+    ) {
+        for out_len in OUT_LENGTHS {
+            let mut out = vec![FILL; out_len];
+            let back = write(&mut out);
+            let (expected_back, expected_out) = lent(expected, out_len);
+            self.count(what, line, back == expected_back && out == expected_out);
+        }
+    }
+}
+
+fn refused(refusal: u64) -> CheckResult {
+    CheckResult {
+        refusal,
+        ..CheckResult::default()
+    }
+}
+
+/// What is handed back and what a buffer of this length then holds.
+fn lent(result: CheckResult, out_len: usize) -> (CheckResult, Vec<u8>) {
+    let mut out = vec![FILL; out_len];
+    if out_len < 64 {
+        return (refused(20), out);
+    }
+    let CheckResult {
+        refusal,
+        length_or_need,
+        load,
+        resistance,
+        spare,
+    } = result;
+    let text = format!("{refusal} {length_or_need} {load} {resistance} {spare}\n");
+    out[..text.len()].copy_from_slice(text.as_bytes());
+    (result, out)
+}
+
+fn result_of(numbers: &str) -> CheckResult {
+    let numbers: Vec<i64> = numbers
+        .split(' ')
+        .map(|n| n.parse().expect("a number"))
+        .collect();
+    let &[refusal, length_or_need, load, resistance, spare] = &numbers[..] else {
+        panic!("five numbers");
+    };
+    CheckResult {
+        refusal: refusal as u64,
+        length_or_need: length_or_need as u64,
+        load: load as u64,
+        resistance: resistance as u64,
+        spare,
+    }
+}
+
+/// Each case of a file: what stands before the tab, with the result behind it.
+fn cases(file: &'static str) -> impl Iterator<Item = (&'static str, CheckResult)> {
+    let cases = file.lines().filter_map(|row| row.split_once('\t'));
+    cases
+        .filter(|(case, _)| !case.starts_with('#'))
+        .map(|(case, numbers)| (case, result_of(numbers)))
+}
+
+/// The row of a line of the form: none for a cellar wall, and for c with two sides, which a row cannot hold.
+fn row_of(line: &str) -> Option<Cells> {
+    let numbers: Vec<f64> = line
+        .strip_prefix("S ")?
+        .split(' ')
+        .map(|n| n.parse().expect("a number"))
+        .collect();
+    let cells = [&numbers[..4], &numbers[6..]]
+        .concat()
+        .try_into()
+        .expect("14 cells");
+    (numbers[4] != 2.0 || numbers[5] == 0.0)
+        .then(|| Cells::new(cells, numbers[4] as u64, numbers[5]))
+}
+
+fn run_row(tally: &mut Tally, row: &str, cells: Cells, expected: CheckResult) {
+    tally.count("row", row, check_row(cells) == expected);
+    tally.count_into("row into a buffer", row, expected, |out| {
+        check_row_into(cells, out)
+    });
+}
+
+fn run_line_case(tally: &mut Tally, line: &str, expected: CheckResult) {
+    tally.count("line", line, check_line(line.as_bytes()) == expected);
+    tally.count_into("line into a buffer", line, expected, |out| {
+        check_line_into(line.as_bytes(), out)
+    });
+    if expected.refusal != 1 {
+        if let Some(cells) = row_of(line) {
+            run_row(tally, line, cells, expected);
+        }
+    }
+}
+
+fn run_row_case(tally: &mut Tally, row: &str, expected: CheckResult) {
+    let words: Vec<&str> = row.split(' ').collect();
+    let cell = |place: usize| words[place].parse().expect("a cell");
+    let held = words[14].parse().expect("held");
+    run_row(
+        tally,
+        row,
+        Cells::new(std::array::from_fn(cell), held, cell(15)),
+        expected,
+    );
+}
+
+/// A null pointer with length 0, as line and as buffer, which the header allows.
+fn run_null(tally: &mut Tally) {
+    let line = unsafe { raw::wallcheck_line(null(), 0) };
+    tally.count("line", "null", line == refused(1));
+    tally.count_into("line into a buffer", "null", refused(1), |out| unsafe {
+        raw::wallcheck_line_into(null(), 0, out.as_mut_ptr(), out.len())
+    });
+    let both = unsafe { raw::wallcheck_line_into(null(), 0, null_mut(), 0) };
+    tally.count(
+        "line into a buffer",
+        "null, buffer null",
+        both == refused(20),
+    );
+    let row = unsafe { raw::wallcheck_row_into(Cells::default(), null_mut(), 0) };
+    tally.count("row into a buffer", "buffer null", row == refused(20));
+}
+
+fn main() {
+    let mut tally = Tally::default();
+    for (line, expected) in cases(LINES) {
+        run_line_case(&mut tally, line, expected);
+    }
+    for (row, expected) in cases(ROWS) {
+        run_row_case(&mut tally, row, expected);
+    }
+    run_null(&mut tally);
+    if tally.different > 0 {
+        eprintln!("rust: {} cases differ", tally.different);
+        exit(1);
+    }
+    println!("rust: {} cases agree", tally.agreed);
+}

@@ -1,0 +1,94 @@
+//! The entries of include/wallcheck.h as safe functions. The header says what each field and function means.
+
+/// The five numbers of a result.
+#[repr(C)]
+#[derive(Clone, Copy, Debug, Default, PartialEq, Eq)]
+pub struct CheckResult {
+    pub refusal: u64,
+    pub length_or_need: u64,
+    pub load: u64,
+    pub resistance: u64,
+    pub spare: i64,
+}
+
+/// A worksheet row.
+#[repr(C)]
+#[derive(Clone, Copy, Debug, Default)]
+pub struct Cells {
+    pub usage: f64,
+    pub thickness: f64,
+    pub height: f64,
+    pub length: f64,
+    pub support: f64,
+    pub span: f64,
+    pub bearing: f64,
+    pub strength: f64,
+    pub bonded: f64,
+    pub dead: f64,
+    pub imposed: f64,
+    pub floorload: f64,
+    pub building: f64,
+    pub storeys: f64,
+    pub held: u64,
+    pub distance: f64,
+}
+
+impl Cells {
+    /// The row with these 14 cells, in document 01's order.
+    pub fn new(cells: [f64; 14], held: u64, distance: f64) -> Cells {
+        Cells {
+            usage: cells[0],
+            thickness: cells[1],
+            height: cells[2],
+            length: cells[3],
+            support: cells[4],
+            span: cells[5],
+            bearing: cells[6],
+            strength: cells[7],
+            bonded: cells[8],
+            dead: cells[9],
+            imposed: cells[10],
+            floorload: cells[11],
+            building: cells[12],
+            storeys: cells[13],
+            held,
+            distance,
+        }
+    }
+}
+
+/// The C functions themselves.
+pub mod raw {
+    use super::{Cells, CheckResult};
+
+    extern "C" {
+        pub fn wallcheck_line(line: *const u8, len: usize) -> CheckResult;
+        pub fn wallcheck_line_into(
+            line: *const u8,
+            len: usize,
+            out: *mut u8,
+            out_len: usize,
+        ) -> CheckResult;
+        pub fn wallcheck_row(cells: Cells) -> CheckResult;
+        pub fn wallcheck_row_into(cells: Cells, out: *mut u8, out_len: usize) -> CheckResult;
+    }
+}
+
+// Each call below is sound: the pointers and lengths are those of slices that live throughout the call,
+// and a shared and a mutable slice do not overlap.
+
+pub fn check_line(line: &[u8]) -> CheckResult {
+    unsafe { raw::wallcheck_line(line.as_ptr(), line.len()) }
+}
+
+pub fn check_line_into(line: &[u8], out: &mut [u8]) -> CheckResult {
+    unsafe { raw::wallcheck_line_into(line.as_ptr(), line.len(), out.as_mut_ptr(), out.len()) }
+}
+
+pub fn check_row(cells: Cells) -> CheckResult {
+    unsafe { raw::wallcheck_row(cells) }
+}
+
+pub fn check_row_into(cells: Cells, out: &mut [u8]) -> CheckResult {
+    unsafe { raw::wallcheck_row_into(cells, out.as_mut_ptr(), out.len()) }
+}

@@ -1,0 +1,2 @@
+-- Laws of `overwrite`, for whoever writes to a lent buffer.
+pub mod Overwrite

@@ -1,0 +1,9 @@
+-- The five lines of the whole case, computed.
+use mathlib.Core.Path.{refl}
+use Rattle.report.specs.Decimal.{decimal, decimalWithin}
+use Rattle.report.specs.Text.{signed, resultText}
+use Rattle.report.specs.WholeCase.{bytes, WholeCasePrints}
+
+pub whole-case-prints : WholeCasePrints
+unfolding resultText signed decimal decimalWithin bytes
+whole-case-prints = refl

@@ -1,0 +1,4 @@
+-- The claims of specs/ and the laws behind them.
+pub mod Number
+pub mod Pattern
+pub mod Entries

@@ -1,0 +1,9 @@
+"""Reads a schedule from standard input and prints what the schedule program must print for it.
+
+    python3 oracle/generate.py lines 20000 | python3 oracle/expected.py
+"""
+
+import sys
+from walls import schedule
+
+sys.stdout.buffer.write(schedule(sys.stdin.buffer.read()))

@@ -1,0 +1,122 @@
+"""Compares walls.py with the figures of document 01 and the worked examples, and the callers' cases with walls.py.
+
+    python3 oracle/selftest.py
+"""
+
+from math import inf, nan, nextafter
+
+from cases import read_lines, read_rows
+from walls import (A, K, StoreyWall, buckling_length, check, check_line, check_row, lent, line_of, need, refused,
+                   row_of, schedule, storey_resistance, text, whole_number)
+
+S, C = A._replace, K._replace
+
+WHOLE_CASE = [A, S(support=2, L=6000), S(G=200000), K]
+WHOLE_CASE_PRINTED = b"""\
+0 19688 216000 352425 136425
+0 19688 216000 297500 81500
+13 19688 405000 352425 -52575
+0 27398 69000 344722 275722
+1 0 0 0 0
+"""
+
+# The table of refusals: number and example. The example of 1 is no record, and that of 20 a buffer.
+REFUSALS = [
+    (2, S(a=176)), (3, S(t=114, a=114)), (4, S(w=228)), (5, S(use=2, t=140, a=140)), (6, S(h=2751)),
+    (7, S(q=5001)), (8, S(H=20001)), (9, S(L=6001)), (10, S(a=100)), (11, S(F=179)),
+    (12, S(t=240, a=240, h=7201)), (13, S(G=200000)), (14, C(t=199)), (15, C(h=2601)), (16, C(e=2501)),
+    (17, C(p=5001)), (18, C(Q=300000)), (19, C(G=27397)),
+]
+FILLED = (13, 18, 19)
+
+# Twelve marked figures, with t=a=175 as A has: what is computed, of which record, and its value.
+MARKED = [
+    (buckling_length, S(h=2625), 19688),
+    (buckling_length, S(held=3, c=1500), 16525), (buckling_length, S(held=3, c=2626), 19688),
+    (buckling_length, S(held=4, c=3000), 13762), (buckling_length, S(held=4, c=2625), 12600),
+    (buckling_length, S(held=4, c=2624), 13120),
+    (buckling_length, S(held=3, c=500, h=2000), 7500), (buckling_length, S(held=3, c=500, h=2400), 7378),
+    (lambda wall: storey_resistance(wall, buckling_length(wall)), A, 352425),
+    (lambda wall: storey_resistance(wall, buckling_length(wall)), S(support=2, L=6000), 297500),
+    (need, C(c=2500), 13699), (need, C(c=3750), 18265),
+]
+
+# Worked examples and remarks on single rules: a record and its result.
+WORKED = [
+    (S(use=2, support=2, L=5500, Q=140000), (0, 19688, 291000, 338819, 47819)),
+    (S(use=2, t=365, a=245, support=2, L=5500, F=180, G=30000, Q=70000), (0, 26250, 145500, 170765, 25265)),
+    (S(held=3, t=240, a=240, h=2750, w=1750, c=1750, F=1051), (0, 20250, 216000, 1103022, 887022)),
+    (C(e=2680, y=18000, F=400, G=72500, Q=0), (16, 0, 0, 0, 0)),
+    (S(t=365, a=164), (10, 0, 0, 0, 0)),
+    (S(t=240, a=120, h=4800), (13, 48000, 216000, 0, -216000)),
+    (S(F=182, bonded=1), (13, 19688, 216000, 102626, -113374)),
+]
+
+count = 0
+
+
+def agree(what, got, figure):
+    global count
+    if got != figure:
+        raise AssertionError(f'{what}: {got} and not {figure}')
+    count += 1
+
+
+def records():
+    """Every record named above."""
+    return [*WHOLE_CASE, *(wall for _, wall in REFUSALS), *(wall for _, wall, _ in MARKED),
+            *(wall for wall, _ in WORKED)]
+
+
+def documents():
+    stream = b''.join(line_of(wall) + b'\n' for wall in WHOLE_CASE) + b'S 175'
+    agree('whole case', schedule(stream), WHOLE_CASE_PRINTED)
+    agree('whole case, last line ended', schedule(stream + b'\n'), WHOLE_CASE_PRINTED)
+    agree('refusal 1', check_line(b'S 175'), refused(1))
+    for number, wall in REFUSALS:
+        result = check_line(line_of(wall))
+        agree(f'refusal {number}', result.refusal, number)
+        agree(f'numbers of refusal {number}', result[1:] == (0, 0, 0, 0), number not in FILLED)
+    agree('a buffer of 63', lent(check(A), b'.' * 63), (refused(20), b'.' * 63))
+    agree('a buffer of 64', lent(check(A), b'.' * 64), (check(A), text(check(A)) + b'.' * 35))
+    for number, (function, wall, figure) in enumerate(MARKED, 1):
+        agree(f'marked figure {number}', function(wall), figure)
+    for wall, result in WORKED:
+        agree(line_of(wall), check(wall), result)
+    agree('t = 365, a = 165 passes refusal 10', check(S(t=365, a=165)).refusal, 0)
+    agree('at 176 mm r jumps to 18', buckling_length(S(t=176, a=176)), 23625)
+
+
+def program():
+    agree('no input', schedule(b''), b'')
+    agree('empty lines', schedule(b'\n\n'), b'1 0 0 0 0\n' * 2)
+    agree('a line over 200 bytes', schedule(line_of(A) + b' ' * 139), b'1 0 0 0 0\n')
+    agree('longest line of the form', check_line(b'S' + b' 999999999' * 16), refused(2))
+
+
+def rows():
+    for wall in records():
+        if isinstance(wall, StoreyWall):
+            agree(f'row of {line_of(wall)}', check_row(*row_of(wall)), check(wall))
+    for cell, number in [(-0.0, 0), (175.0, 175), (2.0**53, 2**53), (-1.0, -1), (0.5, None), (5e-324, None),
+                         (nextafter(175, 0), None), (nextafter(175, 200), None), (inf, None), (-inf, None),
+                         (nan, None)]:
+        agree(f'cell {cell}', whole_number(cell), number)
+
+
+def callers():
+    lines = read_lines()
+    for line, result in lines.items():
+        agree(line, check_line(line), result)
+    for cells, held, distance, result in read_rows():
+        agree(f'row {cells} {held} {distance}', check_row(cells, held, distance), result)
+    for wall in records():
+        agree(f'{line_of(wall)} stands in callers/cases.txt', line_of(wall) in lines, True)
+
+
+if __name__ == '__main__':
+    documents()
+    program()
+    rows()
+    callers()
+    print(f'oracle: {count} figures agree')

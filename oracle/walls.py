@@ -1,0 +1,285 @@
+"""The simplified check of unreinforced masonry walls, in exact fractions.
+
+A calculation of document 01 made apart from the library, in that document's order and with its letters,
+to be read beside it. Programs compare the library with it.
+"""
+
+import re
+from collections import namedtuple
+from fractions import Fraction
+from math import ceil, floor, isfinite
+
+# ---- The two lines
+
+StoreyWall = namedtuple('StoreyWall', 'use t h w held c support L a F bonded G Q q H n')
+CellarWall = namedtuple('CellarWall', 't h e c y F bonded G Q p')
+
+# Lowest and highest value of each number; what depends on another number stands in storey_in_range.
+STOREY_RANGES = StoreyWall(
+    use=(1, 4), t=(1, 1000), h=(1, 20000), w=(1, 20000), held=(2, 4), c=(0, 30000), support=(1, 4),
+    L=(1, 20000), a=(1, 1000), F=(1, 5000), bonded=(0, 1), G=(1, 10000000), Q=(0, 10000000),
+    q=(0, 100000), H=(1, 200000), n=(1, 20))
+CELLAR_RANGES = CellarWall(
+    t=(1, 1000), h=(1, 20000), e=(0, 20000), c=(1, 30000), y=(1, 30000), F=(1, 5000), bonded=(0, 1),
+    G=(1, 10000000), Q=(0, 10000000), p=(0, 100000))
+
+# "1 to 9 digits, without leading zeros (a lone 0 is allowed), with one space before each"
+NUMBER = b' (?:0|[1-9][0-9]{0,8})'
+STOREY_LINE = re.compile(b'S(?:%b){%d}' % (NUMBER, len(StoreyWall._fields)))
+CELLAR_LINE = re.compile(b'C(?:%b){%d}' % (NUMBER, len(CellarWall._fields)))
+
+
+def read_line(line):
+    """The record of a line, or None if it is not a line of this form."""
+    if STOREY_LINE.fullmatch(line):
+        return StoreyWall(*map(int, line.split(b' ')[1:]))
+    if CELLAR_LINE.fullmatch(line):
+        return CellarWall(*map(int, line.split(b' ')[1:]))
+    return None
+
+
+def line_of(wall):
+    """The line of a record."""
+    letter = 'S' if isinstance(wall, StoreyWall) else 'C'
+    return ' '.join([letter, *map(str, wall)]).encode()
+
+
+def each_in_range(wall, ranges):
+    return all(low <= number <= high for number, (low, high) in zip(wall, ranges))
+
+
+def storey_in_range(wall):
+    """Each number in its range; a is at most t, and c is 0 exactly if held is 2."""
+    return (each_in_range(wall, STOREY_RANGES) and wall.a <= wall.t
+            and (wall.c == 0) == (wall.held == 2))
+
+
+def cellar_in_range(wall):
+    return each_in_range(wall, CELLAR_RANGES)
+
+
+# ---- Storey wall
+
+def factor_r(wall):
+    """r of the factor r/20."""
+    bearing_suffices = wall.a >= 175 if wall.t >= 240 else wall.a == wall.t
+    if not bearing_suffices:
+        return 20
+    if wall.t <= 175:
+        return 15
+    if wall.t <= 250:
+        return 18
+    return 20
+
+
+def exact_buckling_length(wall):
+    """The buckling length in tenths of a mm, before it is rounded."""
+    t, h, held, c = wall.t, wall.h, wall.held, wall.c
+    k = factor_r(wall) * h
+    if held == 3 and c <= 15 * t:
+        return max(Fraction(1800 * c**2 * k, 3600 * c**2 + k**2), Fraction(3 * h))
+    if held == 4 and c <= 30 * t:
+        if h <= c:
+            return Fraction(200 * c**2 * k, 400 * c**2 + k**2)
+        return Fraction(5 * c)
+    return Fraction(k, 2)
+
+
+def buckling_length(wall):
+    """E: the exact value rounded up."""
+    return ceil(exact_buckling_length(wall))
+
+
+def span_value_m(wall):
+    """m, for supports 2 to 4."""
+    if wall.support == 2:
+        return min(5400, 9600 - wall.L)
+    if wall.support == 3:
+        return 1998
+    return 5400
+
+
+def exact_resistance(wall, E):
+    """The resistance in N/m before it is rounded, for a buckling length E."""
+    t, a, F = wall.t, wall.a, wall.F
+    smaller = Fraction(17 * F * (850000 * a * t - 11 * E**2), 3000000 * t)
+    if wall.support != 1:
+        smaller = min(smaller, Fraction(17 * F * a * span_value_m(wall), 18000))
+    not_below_0 = max(smaller, Fraction(0))
+    if wall.w * t < 100000 or wall.bonded == 1:
+        return not_below_0 * Fraction(4, 5)
+    return not_below_0
+
+
+def storey_resistance(wall, E):
+    """Rounded down once."""
+    return floor(exact_resistance(wall, E))
+
+
+def load(G, Q):
+    """N: 1.35G + 1.5Q, rounded up."""
+    return ceil(Fraction(135 * G + 150 * Q, 100))
+
+
+def above_height_limit(wall):
+    if wall.t < 240:
+        return wall.h > 2750
+    if wall.use == 1:
+        return False
+    return wall.h > 12 * wall.t
+
+
+# ---- Cellar wall
+
+def cellar_b(wall):
+    h, c = wall.h, wall.c
+    if c >= 2 * h:
+        return Fraction(20)
+    if c <= h:
+        return Fraction(40)
+    return 60 - Fraction(20 * c, h)
+
+
+def need(wall):
+    """y × h × e²/(1000000 × B × t), rounded up."""
+    return ceil(wall.y * wall.h * wall.e**2 / (1000000 * cellar_b(wall) * wall.t))
+
+
+def cellar_resistance(wall):
+    """17Ft/9, times 4/5 if bonded, rounded down."""
+    exact = Fraction(17 * wall.F * wall.t, 9)
+    return floor(exact * Fraction(4, 5) if wall.bonded == 1 else exact)
+
+
+# ---- Results and refusals
+
+Result = namedtuple('Result', 'refusal second load resistance spare')
+
+A = read_line(b'S 1 175 2625 5000 2 0 1 5000 175 500 0 60000 90000 2250 9000 3')
+K = read_line(b'C 365 2500 2000 6000 20000 500 0 40000 10000 5000')
+
+
+def refused(number):
+    """A refusal that leaves four zeros."""
+    return Result(number, 0, 0, 0, 0)
+
+
+def filled(number, second, N, resistance):
+    """An accepted result, or a refusal that fills all five."""
+    return Result(number, second, N, resistance, resistance - N)
+
+
+def refused_use(wall):
+    """use 2 and t < 150; or use 4 and n > 1; or use 3, t < 150 and either n > 2 or neither (held 4, c ≤ 4500)
+    nor (held 3, c ≤ 2000)"""
+    held_near = (wall.held == 4 and wall.c <= 4500) or (wall.held == 3 and wall.c <= 2000)
+    return ((wall.use == 2 and wall.t < 150)
+            or (wall.use == 4 and wall.n > 1)
+            or (wall.use == 3 and wall.t < 150 and (wall.n > 2 or not held_near)))
+
+
+def refused_bearing(wall):
+    """a ≤ 100, or 2a < t (for t = 365: 20a < 9t)"""
+    return wall.a <= 100 or (20 * wall.a < 9 * wall.t if wall.t == 365 else 2 * wall.a < wall.t)
+
+
+# Number and test of the refusals that leave zeros, in the order in which they are given.
+STOREY_REFUSALS = [
+    (2, lambda wall: not storey_in_range(wall)),
+    (3, lambda wall: wall.t < 115),
+    (4, lambda wall: wall.w * wall.t < 40000),
+    (5, refused_use),
+    (6, above_height_limit),
+    (7, lambda wall: wall.q > 5000 or (wall.q > 3000 and wall.use != 1 and wall.t < 175)),
+    (8, lambda wall: wall.H > 20000),
+    (9, lambda wall: wall.L > 6000 and wall.support != 4),
+    (10, refused_bearing),
+    (11, lambda wall: wall.F < 180),
+    (12, lambda wall: buckling_length(wall) > 270 * wall.t),
+]
+CELLAR_REFUSALS = [
+    (2, lambda wall: not cellar_in_range(wall)),
+    (14, lambda wall: wall.t < 200),
+    (15, lambda wall: wall.h > 2600),
+    (16, lambda wall: wall.e > wall.h),
+    (17, lambda wall: wall.p > 5000),
+    (11, lambda wall: wall.F < 180),
+]
+
+
+def check_storey(wall):
+    for number, applies in STOREY_REFUSALS:
+        if applies(wall):
+            return refused(number)
+    E = buckling_length(wall)
+    N = load(wall.G, wall.Q)
+    resistance = storey_resistance(wall, E)
+    return filled(13 if N > resistance else 0, E, N, resistance)
+
+
+def check_cellar(wall):
+    for number, applies in CELLAR_REFUSALS:
+        if applies(wall):
+            return refused(number)
+    required = need(wall)
+    N = load(wall.G, wall.Q)
+    resistance = cellar_resistance(wall)
+    number = 18 if N > resistance else 19 if wall.G < required else 0
+    return filled(number, required, N, resistance)
+
+
+def check(wall):
+    """The result of a record of either kind."""
+    return check_storey(wall) if isinstance(wall, StoreyWall) else check_cellar(wall)
+
+
+def check_line(line):
+    """The result of a line of bytes."""
+    wall = read_line(line)
+    return refused(1) if wall is None else check(wall)
+
+
+def text(result):
+    """Five numbers, one space between, a minus sign where negative, then byte 10."""
+    return b'%d %d %d %d %d\n' % result
+
+
+def lent(result, buffer):
+    """What is handed back and what a lent buffer holds afterwards."""
+    if len(buffer) < 64:
+        return refused(20), buffer
+    line = text(result)
+    return result, line + buffer[len(line):]
+
+
+def schedule(stream):
+    """What the schedule program prints for its standard input."""
+    *lines, behind = stream.split(b'\n')
+    if behind:
+        lines.append(behind)
+    return b''.join(text(refused(1) if len(line) > 200 else check_line(line)) for line in lines)
+
+
+# ---- Worksheet row
+
+def whole_number(cell):
+    """The whole number that an f64 is exactly, or None for a fraction, an infinity and a NaN."""
+    if not isfinite(cell):
+        return None
+    numerator, denominator = cell.as_integer_ratio()
+    return numerator if denominator == 1 else None
+
+
+def row_of(wall):
+    """Cells, held and distance of the row that counts as the line of a storey record."""
+    use, t, h, w, held, c, *others = wall
+    return [float(number) for number in (use, t, h, w, *others)], held, float(c)
+
+
+def check_row(cells, held, distance):
+    """The result of a row: 14 cells (all numbers of the line but held and c, in its order), the number of
+    held sides and, for three and four of them, the cell of the distance."""
+    use, t, h, w, *others = map(whole_number, cells)
+    c = 0 if held == 2 else whole_number(distance)
+    wall = StoreyWall(use, t, h, w, held, c, *others)
+    return refused(2) if None in wall else check_storey(wall)
