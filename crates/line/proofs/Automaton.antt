@@ -1,0 +1,136 @@
+-- Laws of the automaton.
+use Prim.Native.Nat.{ℕ, zero, suc, _+_, _*_, _/_, _%_, _^_, _≤_, _<_}
+use mathlib.Core.Bool.{Bool, true, false, cond, _&&_}
+use mathlib.Core.Path.{_≡_, refl, ap, subst, _∙_}
+use mathlib.Core.List.{List, [], _∷_, _++_}
+use native.Mathlib.Decide.{decLt}
+use native.Mathlib.Nat.{pow-succ'}
+use native.Mathlib.Numerals.{add-one}
+use native.Mathlib.Omega.{arith}
+use lib.Dec.{leb, eqb}
+use lib.ListN.{length, getD, drop, drop-of-length-le}
+use lib.Seq.{drop-cons}
+use borrow.Author.Tests.{lt-ltb, le-ltb, le-leb, leb-true, eqb-true, ne-eqb}
+use Rattle.line.specs.declared.Reading.the-variants.{Malformed}
+use Rattle.line.specs.Grammar.{countOf, decimal}
+use Rattle.line.specs.Automaton.{State, start, lettered, inside, wrong, digitOf, next, run}
+use Rattle.line.specs.Reading.{answer, readLine}
+use Rattle.line.proofs.Decimal.{decimal-digit, decimal-snoc}
+use Rattle.line.proofs.Tests.{and-left, cond-cases}
+
+pub run-append : (l m : List ℕ) (s : State) → run (l ++ m) s ≡ run m (run l s)
+unfolding run
+run-append [] m s = refl
+run-append (b ∷ l) m s = run-append l m (next s b)
+
+-- After a wrong byte nothing counts.
+pub run-wrong : (l : List ℕ) → run l wrong ≡ wrong
+unfolding run next
+run-wrong [] = refl
+run-wrong (b ∷ l) = run-wrong l
+
+-- One byte more.
+pub run-drop : (l : List ℕ) (at : ℕ) (s : State) → at < length l → run (drop at l) s ≡ run (drop (at + 1) l) (next s (getD l at 0))
+unfolding run
+run-drop l at s h = rw (add-one, drop-cons l at 0)
+
+-- What the line l is read as follows from its bytes from `at` on, in the state s.
+pub record Continues (l : List ℕ) (at : ℕ) (s : State) : Type 0 where
+  pub reads : readLine l ≡ answer (run (drop at l) s)
+
+pub continues-start : (l : List ℕ) → Continues l 0 start
+unfolding readLine
+continues-start l = record { reads = refl }
+
+module _ {l : List ℕ} {at : ℕ} {s : State} (c : Continues l at s) (left : at < length l) where
+  pub continues-next : {t : State} → next s (getD l at 0) ≡ t → Continues l (at + 1) t
+  continues-next e = record { reads = c .reads ∙ ap answer (run-drop l at s left ∙ ap (run (drop (at + 1) l)) e) }
+
+  pub continues-wrong : next s (getD l at 0) ≡ wrong → readLine l ≡ Malformed
+  unfolding answer
+  continues-wrong e = continues-next e .reads ∙ ap answer (run-wrong (drop (at + 1) l))
+
+-- At the end of the line the state decides.
+pub run-end : (l : List ℕ) (at : ℕ) (s : State) → length l ≤ at → run (drop at l) s ≡ s
+unfolding run
+run-end l at s h = rw (drop-of-length-le l h)
+
+-- The byte of a digit has the digit's value.
+pub digit-byte : (x : ℕ) → x < 10 → digitOf (48 + x) ≡ x
+unfolding digitOf
+digit-byte x h = simp (le-leb 48 (48 + x) (omega arith), le-leb (48 + x) 57 (omega arith)) (omega arith)
+
+-- No other byte has it.
+pub byte-digit : (b : ℕ) → digitOf b < 10 → b ≡ 48 + digitOf b
+unfolding digitOf
+byte-digit b =
+    cond-cases (λ (x : ℕ). x < 10 → b ≡ 48 + x) (leb 48 b && leb b 57)
+    (λ t h. omega (arith, leb-true 48 b (and-left (leb 48 b) (leb b 57) t)))
+    (λ t h. omega arith)
+
+-- The letter of a line.
+pub next-letter : (c : ℕ) → 0 < countOf c → next start c ≡ lettered c
+unfolding next
+next-letter c h = rw (ne-eqb (countOf c) 0 (λ e. omega arith))
+
+-- A digit and a space behind the digits of a number.
+module _ (c : ℕ) (ns : List ℕ) (d v : ℕ) where
+  pub next-digit : (x : ℕ) → d < 9 → (0 < d → 0 < v) → x < 10 → next (inside c ns d v) (48 + x) ≡ inside c ns (d + 1) (10 * v + x)
+  unfolding next
+  next-digit x few proper h =
+      rw (ne-eqb (48 + x) 32 (λ e. omega arith), digit-byte x h, le-ltb 9 x (omega arith), ne-eqb d 9 (λ e. omega arith))
+      (lone (eqb d 1) refl)
+    where
+      lone : (one : Bool) → eqb d 1 ≡ one
+          → cond (one && eqb v 0) wrong (inside c ns (d + 1) (10 * v + x)) ≡ inside c ns (d + 1) (10 * v + x)
+      lone true e = rw (ne-eqb v 0 (λ z. omega (arith, proper (omega (arith, eqb-true d 1 e)))))
+      lone false e = refl
+
+  pub next-space : 0 < d → length ns + 1 < countOf c → next (inside c ns d v) 32 ≡ inside c (ns ++ v ∷ []) 0 0
+  unfolding next
+  next-space some another = rw (lt-ltb 0 d some, lt-ltb (length ns + 1) (countOf c) another)
+
+-- The digits of n have been taken, at most `most` of them.
+pub record Taken (c : ℕ) (ns : List ℕ) (n most : ℕ) : Type 0 where
+  pub size : ℕ
+  pub some : 0 < size
+  pub few : size ≤ most
+  pub taken : run (decimal n) (inside c ns 0 0) ≡ inside c ns size n
+
+module _ (c : ℕ) (ns : List ℕ) where
+  taken-first : (x most : ℕ) → x < 10 → Taken c ns x (suc most)
+  unfolding run
+  taken-first x most h =
+      record {
+        size = 1;
+        some = omega arith;
+        few = omega arith;
+        taken = rw (decimal-digit x h) (next-digit c ns 0 0 x (omega arith) (λ none. omega arith) h ∙ ap (inside c ns 1) (omega arith));
+      }
+
+  taken-last : (n x most : ℕ) → Taken c ns n most → most < 9 → 0 < n → n < 10 ^ 9 → x < 10 → Taken c ns (10 * n + x) (suc most)
+  unfolding run
+  taken-last n x most t room positive nine h =
+      record {
+        size = t .size + 1;
+        some = omega arith;
+        few = omega arith;
+        taken =
+            ap (λ (l : List ℕ). run l (inside c ns 0 0)) (decimal-snoc n x positive (omega arith) h)
+            ∙ run-append (decimal n) ((48 + x) ∷ []) (inside c ns 0 0)
+            ∙ ap (λ (s : State). next s (48 + x)) (t .taken)
+            ∙ next-digit c ns (t .size) n x (omega arith) (λ some. positive) h;
+      }
+
+  -- A number of at most nine digits is read as itself: its tenth is, and then its last digit.
+  pub decimal-taken : (most n : ℕ) → most < 9 → n < 10 ^ suc most → n < 10 ^ 9 → Taken c ns n (suc most)
+  decimal-taken zero n nine h below = taken-first n zero h
+  decimal-taken (suc most) n nine h below =
+      elim (decLt n 10) [
+        | yes small ↦ taken-first n (suc most) small
+        | no large ↦
+            let parts : 10 * (n / 10) + n % 10 ≡ n = omega arith in
+            let tenth = decimal-taken most (n / 10) (omega arith) (omega (arith, pow-succ' 10 (suc most))) (omega arith) in
+            subst (λ (m : ℕ). Taken c ns m (suc (suc most))) parts
+            (taken-last (n / 10) (n % 10) (suc most) tenth nine (omega arith) (omega arith) (omega arith))
+      ]

@@ -1,0 +1,9 @@
+-- Laws of tests (Tests), of the definitions (Decimal, Grammar, Automaton) and of the reader's loops (Steps); the claims and what they rest on.
+pub mod Tests
+pub mod Decimal
+pub mod Grammar
+pub mod Automaton
+pub mod Steps
+pub mod Completeness
+pub mod Soundness
+pub mod Claims

@@ -1,0 +1,135 @@
+// A line of bytes, read as the record that it stands for.
+use cellar::CellarWall;
+use storey::StoreyWall;
+use walls::Wall;
+ghost use mathlib.Core.Path.{_≡_};
+ghost use Rattle.line.specs.Grammar.{countOf};
+ghost use Rattle.line.specs.Automaton.{digitOf};
+ghost use Rattle.line.specs.Reading.{storeyOf, cellarOf, wallOf, readLine};
+
+// How many numbers follow the letter `S`, the most that any letter asks for, and the letter `C`.
+const STOREY_NUMBERS: usize = 16;
+
+const CELLAR_NUMBERS: usize = 10;
+
+// The most digits that a number has.
+const MOST_DIGITS: u64 = 9;
+
+// What a line is read as.
+pub enum Reading {
+    // The line of this record, in range or not.
+    Read(Wall),
+    // Not a line of the form.
+    Malformed,
+}
+
+// How many numbers follow a letter; 0 where no line begins with it.
+fn count(letter: u8) -> usize
+    ensures { λ count. ⌜ count ≡ countOf letter ⌝ }
+{
+    match letter {
+        b'S' => STOREY_NUMBERS,
+        b'C' => CELLAR_NUMBERS,
+        _ => 0,
+    }
+}
+
+// The value of a digit, and 10 for any other byte.
+fn digit(byte: u8) -> u64
+    ensures { λ value. ⌜ value ≡ digitOf byte ⌝ }
+{
+    if (b'0' <= byte) & (byte <= b'9') {
+        return (byte - b'0') as u64;
+    }
+    10
+}
+
+fn storey_wall(numbers: &[u64; STOREY_NUMBERS]) -> StoreyWall
+    ensures { λ wall. ⌜ wall ≡ storeyOf (now (numbers .entry)) ⌝ }
+{
+    StoreyWall {
+        usage: numbers[0],
+        thickness: numbers[1],
+        height: numbers[2],
+        length: numbers[3],
+        held: numbers[4],
+        distance: numbers[5],
+        support: numbers[6],
+        span: numbers[7],
+        bearing: numbers[8],
+        strength: numbers[9],
+        bonded: numbers[10],
+        dead: numbers[11],
+        imposed: numbers[12],
+        floorload: numbers[13],
+        building: numbers[14],
+        storeys: numbers[15],
+    }
+}
+
+fn cellar_wall(numbers: &[u64; STOREY_NUMBERS]) -> CellarWall
+    ensures { λ wall. ⌜ wall ≡ cellarOf (now (numbers .entry)) ⌝ }
+{
+    CellarWall {
+        thickness: numbers[0],
+        height: numbers[1],
+        fill: numbers[2],
+        spacing: numbers[3],
+        weight: numbers[4],
+        strength: numbers[5],
+        bonded: numbers[6],
+        dead: numbers[7],
+        imposed: numbers[8],
+        ground: numbers[9],
+    }
+}
+
+// The record of a line with this letter and these numbers.
+fn wall(letter: u8, numbers: &[u64; STOREY_NUMBERS]) -> Wall
+    ensures { λ wall. ⌜ wall ≡ wallOf letter (now (numbers .entry)) ⌝ }
+{
+    if letter == b'S' {
+        return Wall::Storey(storey_wall(numbers));
+    }
+    Wall::Cellar(cellar_wall(numbers))
+}
+
+// Takes each byte once, front to back. A wrong byte leaves both loops; `k` then counts fewer numbers than are wanted.
+pub fn read(line: &[u8]) -> Reading
+    ensures { λ reading. ⌜ reading ≡ readLine (now (line .entry)) ⌝ }
+{
+    if line.len() < 2 {
+        return Reading::Malformed;
+    }
+    let letter = line[0];
+    let wanted = count(letter);
+    if wanted == 0 || line[1] != b' ' {
+        return Reading::Malformed;
+    }
+    let mut numbers = [0u64; STOREY_NUMBERS];
+    let mut k = 0;
+    let mut at = 2;
+    'numbers: while (k < wanted) & (at < line.len()) {
+        let mut digits = 0;
+        let mut value = 0;
+        'digits: while at < line.len() {
+            let byte = line[at];
+            at += 1;
+            if (byte == b' ') & (0 < digits) & (k + 1 < wanted) {
+                break 'digits;
+            }
+            let next = digit(byte);
+            if (9 < next) | (digits == MOST_DIGITS) | ((digits == 1) & (value == 0)) {
+                break 'numbers;
+            }
+            value = 10 * value + next;
+            digits += 1;
+        }
+        numbers[k] = value;
+        k += 1;
+    }
+    if k < wanted {
+        return Reading::Malformed;
+    }
+    Reading::Read(wall(letter, &numbers))
+}

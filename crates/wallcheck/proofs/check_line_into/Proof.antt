@@ -1,0 +1,28 @@
+-- `wallcheck::check_line_into` meets its contract: refusal 20 first, else the result handed back and written.
+use borrow.Author.Needs.{needs}
+use Rattle.wallcheck.proofs.Entry.{line-below, lent-short, lent-written}
+use Rattle.wallcheck.proofs.check_line_into.Statement.{statement}
+use Rattle.wallcheck.proofs.check_line_into.Tie as tie
+
+refused-requires : tie.Need-refused-requires
+refused-requires c κs = search needs
+
+returns : tie.Need-returns
+returns c = lent-short _ _ _ (c .refused .ensures) (c .before .if1 .taken)
+
+check-line-requires : tie.Need-check-line-requires
+check-line-requires c κs = search needs
+
+write-requires : tie.Need-write-requires
+write-requires c κs = search needs
+
+same-length : tie.Need-same-length
+same-length c = search needs
+
+returns-2 : tie.Need-returns-2
+returns-2 c = lent-written _ _ _ _ _ (c .before .before .before .before .check-line .ensures) (line-below _) (c .before .before .write .ensures) (c .before .before .before .before .before .if1 .left)
+
+pub check-line-into-spec : {M : Type 1} → statement M
+check-line-into-spec =
+    tie.close
+    (tie.spec refused-requires returns check-line-requires write-requires same-length returns-2)

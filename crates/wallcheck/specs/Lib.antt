@@ -1,0 +1,2 @@
+-- The public entries: what each answers, and demands 1 to 3 restated for them.
+pub mod Entry
