@@ -1,13 +1,15 @@
 -- Laws of the entries: every result is bounded, so that its text fits 64 bytes, and what a lent buffer holds then.
 use Prim.Native.Nat.{ℕ, _≤_, _<_}
 use mathlib.Core.List.{List}
-use mathlib.Core.Path.{_≡_, _∙_, ap, ap₂}
+use mathlib.Core.Path.{_≡_, _∙_, ap}
 use native.Mathlib.Omega.{arith}
 use native.Mathlib.Nat.{le-trans}
 use borrow.Author.Tests.{lt-ltb, le-ltb}
+use lib.Dec.{eqb}
 use lib.ListN.{length}
 use Rattle.basis.specs.declared.CheckResult.{CheckResult}
 use Rattle.basis.specs.Result.{refusedWith, Below}
+use Rattle.basis.proofs.Choice.{cond-cases}
 use Rattle.basis.proofs.Result.{refused-below}
 use Rattle.storey.proofs.Claims as storey-claims
 use Rattle.cellar.proofs.Claims as cellar-claims
@@ -17,13 +19,16 @@ use Rattle.walls.specs.Check.{check}
 use Rattle.line.specs.declared.Reading.{Reading}
 use Rattle.line.specs.declared.Reading.the-variants.{Read, Malformed}
 use Rattle.line.specs.Reading.{readLine, resultOf}
+use Rattle.worksheet.specs.declared.Holding.the-variants.{TwoSides, ThreeSides, FourSides}
 use Rattle.worksheet.specs.declared.Row.{Row}
 use Rattle.worksheet.specs.Row.{rowWall}
 use Rattle.buffer.proofs.Overwrite.{overwrite-start}
 use Rattle.report.specs.Text.{resultText}
 use Rattle.report.specs.Written.{Written, written}
 use Rattle.report.proofs.Text.{text-fits}
-use Rattle.wallcheck.specs.Entry.{lineResult, rowResult, Lent, lent}
+use Rattle.wallcheck.specs.declared.interface.Cells.{Cells}
+use Rattle.wallcheck.specs.Entry.{lineResult, rowResult, lent}
+use Rattle.wallcheck.specs.Interface.{cellsRow, cellsResult}
 
 -- Every number of every result is below 10^9.
 
@@ -48,6 +53,18 @@ text-within-64 r below =
     text-fits r (omega (arith, below .refusal-below)) (omega (arith, below .second-below)) (omega (arith, below .load-below))
     (omega (arith, below .resistance-below)) (omega (arith, below .spare-below))
 
+-- The C interface for a row: refusal 2, or the result of a row.
+pub cells-below : (cells : Cells) → Below 1000000000 (cellsResult cells)
+unfolding cellsResult
+cells-below cells =
+    cond-cases (Below 1000000000) (eqb (cells .held) 2)
+    (λ _. row-below (cellsRow cells TwoSides))
+    (λ _. cond-cases (Below 1000000000) (eqb (cells .held) 3)
+    (λ _. row-below (cellsRow cells (ThreeSides (cells .distance))))
+    (λ _. cond-cases (Below 1000000000) (eqb (cells .held) 4)
+    (λ _. row-below (cellsRow cells (FourSides (cells .distance))))
+    (λ _. refused-below 1000000000 2 (omega arith))))
+
 -- What a lent buffer holds, with what the code has handed back and written.
 
 pub lent-short : (buffer : List ℕ) (r handed : CheckResult) → handed ≡ refusedWith 20 → length buffer < 64 →
@@ -55,11 +72,10 @@ pub lent-short : (buffer : List ℕ) (r handed : CheckResult) → handed ≡ ref
 unfolding lent
 lent-short buffer r handed is short = rw (is, lt-ltb (length buffer) 64 short)
 
-pub lent-written : (buffer after : List ℕ) (count : ℕ) (r handed : CheckResult) → handed ≡ r → Below 1000000000 r →
-    record { buffer = after; count = count } ≡ written handed buffer → 64 ≤ length buffer → record { result = handed; buffer = after } ≡ lent buffer r
+pub lent-written : (buffer after : List ℕ) (count : ℕ) (r : CheckResult) → Below 1000000000 r →
+    record { buffer = after; count = count } ≡ written r buffer → 64 ≤ length buffer → record { result = r; buffer = after } ≡ lent buffer r
 unfolding lent
-lent-written buffer after count r handed is below wrote long =
+lent-written buffer after count r below wrote long =
     let text = overwrite-start buffer (resultText r) (le-trans (text-within-64 r below) long) in
     let holds = ap (λ (w : Written). w .buffer) wrote in
-    rw (le-ltb (length buffer) 64 long)
-    (ap₂ (λ (x : CheckResult) (bytes : List ℕ). record { result = x; buffer = bytes }) is (holds ∙ ap (λ (x : CheckResult). written x buffer .buffer) is ∙ text))
+    rw (le-ltb (length buffer) 64 long) (ap (λ (bytes : List ℕ). record { result = r; buffer = bytes }) (holds ∙ text))

@@ -1,4 +1,6 @@
-// The public entries: a line or a worksheet row, each also into a lent buffer.
+// The public entries: a line or a worksheet row, each also into a lent buffer; and the C interface.
+mod interface;
+
 ghost use mathlib.Core.Path.{_≡_};
 ghost use Rattle.basis.specs.Result.{Below};
 ghost use Rattle.wallcheck.specs.Entry.{lineResult, rowResult, lent};
@@ -27,26 +29,28 @@ pub fn check_row(row: Row) -> CheckResult
     Wall::Storey(row.wall()).check()
 }
 
-// The result of a line, also written to `out` as text.
-pub fn check_line_into(line: &[u8], out: &mut [u8]) -> CheckResult
-    ensures { λ result. ⌜ record { result = result; buffer = now (out .exit) } ≡ lent (now (out .entry)) (lineResult (now (line .entry))) ⌝ }
+// Refusal 20 for a buffer that is too short, else the result, written to `out` as text.
+fn lend(result: CheckResult, out: &mut [u8]) -> CheckResult
+    requires { ⌜ Below 1000000000 result ⌝ }
+    ensures { λ handed. ⌜ record { result = handed; buffer = now (out .exit) } ≡ lent (now (out .entry)) result ⌝ }
 {
     if out.len() < LEAST_BUFFER {
         return CheckResult::refused(20);
     }
-    let result = check_line(line);
     report::write(result, out);
     result
+}
+
+// The result of a line, also written to `out` as text.
+pub fn check_line_into(line: &[u8], out: &mut [u8]) -> CheckResult
+    ensures { λ result. ⌜ record { result = result; buffer = now (out .exit) } ≡ lent (now (out .entry)) (lineResult (now (line .entry))) ⌝ }
+{
+    lend(check_line(line), out)
 }
 
 // The result of a worksheet row, also written to `out` as text.
 pub fn check_row_into(row: Row, out: &mut [u8]) -> CheckResult
     ensures { λ result. ⌜ record { result = result; buffer = now (out .exit) } ≡ lent (now (out .entry)) (rowResult row) ⌝ }
 {
-    if out.len() < LEAST_BUFFER {
-        return CheckResult::refused(20);
-    }
-    let result = check_row(row);
-    report::write(result, out);
-    result
+    lend(check_row(row), out)
 }

@@ -1,28 +1,22 @@
--- `wallcheck::check_line_into` meets its contract: refusal 20 first, else the result handed back and written.
+-- `wallcheck::check_line_into` meets its contract.
 use borrow.Author.Needs.{needs}
-use Rattle.wallcheck.proofs.Entry.{line-below, lent-short, lent-written}
+use mathlib.Core.Path.{_∙_, ap}
+use Rattle.wallcheck.proofs.Entry.{line-below}
+use Rattle.wallcheck.specs.Entry.{lent}
 use Rattle.wallcheck.proofs.check_line_into.Statement.{statement}
 use Rattle.wallcheck.proofs.check_line_into.Tie as tie
-
-refused-requires : tie.Need-refused-requires
-refused-requires c κs = search needs
-
-returns : tie.Need-returns
-returns c = lent-short _ _ _ (c .refused .ensures) (c .before .if1 .taken)
 
 check-line-requires : tie.Need-check-line-requires
 check-line-requires c κs = search needs
 
-write-requires : tie.Need-write-requires
-write-requires c κs = search needs
+lend-requires : tie.Need-lend-requires
+lend-requires c κs = rw (c .before .check-line .ensures) (line-below _)
 
 same-length : tie.Need-same-length
 same-length c = search needs
 
-returns-2 : tie.Need-returns-2
-returns-2 c = lent-written _ _ _ _ _ (c .before .before .before .before .check-line .ensures) (line-below _) (c .before .before .write .ensures) (c .before .before .before .before .before .if1 .left)
+returns : tie.Need-returns
+returns c = c .before .before .lend .ensures ∙ ap (lent _) (c .before .before .before .before .check-line .ensures)
 
 pub check-line-into-spec : {M : Type 1} → statement M
-check-line-into-spec =
-    tie.close
-    (tie.spec refused-requires returns check-line-requires write-requires same-length returns-2)
+check-line-into-spec = tie.close (tie.spec check-line-requires lend-requires same-length returns)
