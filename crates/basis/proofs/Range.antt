@@ -3,9 +3,10 @@ use Prim.Native.Nat.{ℕ, _≤_}
 use mathlib.Core.Bool.{Bool, true, false, false≢true, _&&_, and-true, and-assoc}
 use mathlib.Core.List.{List, [], _∷_}
 use mathlib.Core.Path.{_≡_, _∙_, refl, sym}
+use native.Mathlib.Nat.{le-trans}
 use borrow.Author.Tests.{leb-true, le-leb}
 use lib.Dec.{leb}
-use Rattle.basis.specs.Range.{within, everyHolds}
+use Rattle.basis.specs.Range.{within, everyHolds, AllBelow}
 
 -- Every test of the list is true.
 abbrev pub AllTrue : List Bool → Type 0
@@ -45,3 +46,7 @@ within-bounds low high x passed =
 
 pub bounds-within : (low high x : ℕ) → low ≤ x → x ≤ high → within low high x ≡ true
 bounds-within low high x least most = rw (le-leb low x least) (le-leb x high most)
+
+pub AllBelow-mono : (bound bound' : ℕ) (ns : List ℕ) → bound ≤ bound' → AllBelow bound ns → AllBelow bound' ns
+AllBelow-mono bound bound' [] wider all = tt
+AllBelow-mono bound bound' (n ∷ ns) wider all = (le-trans (all .0) wider, AllBelow-mono bound bound' ns wider (all .1))

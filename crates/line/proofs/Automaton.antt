@@ -1,4 +1,4 @@
--- Laws of the automaton.
+-- Laws of the automaton: s and t are states, b a byte, c a letter, ns the numbers before, d and v how many digits there are and their value.
 use Prim.Native.Nat.{ℕ, zero, suc, _+_, _*_, _/_, _%_, _^_, _≤_, _<_}
 use mathlib.Core.Bool.{Bool, true, false, cond, _&&_}
 use mathlib.Core.Path.{_≡_, refl, ap, subst, _∙_}
@@ -12,10 +12,12 @@ use lib.ListN.{length, getD, drop, drop-of-length-le}
 use lib.Seq.{drop-cons}
 use borrow.Author.Tests.{lt-ltb, le-ltb, le-leb, leb-true, eqb-true, ne-eqb}
 use Rattle.line.specs.declared.Reading.the-variants.{Malformed}
-use Rattle.line.specs.Grammar.{countOf, decimal}
+use Rattle.text.specs.Decimal.{decimal}
+use Rattle.line.specs.Grammar.{countOf}
 use Rattle.line.specs.Automaton.{State, start, lettered, inside, wrong, digitOf, next, run}
 use Rattle.line.specs.Reading.{answer, readLine}
-use Rattle.line.proofs.Decimal.{decimal-digit, decimal-snoc}
+use Rattle.text.proofs.Decimal.{decimal-digit}
+use Rattle.line.proofs.Decimal.{decimal-snoc}
 use Rattle.line.proofs.Tests.{and-left, cond-cases}
 
 pub run-append : (l m : List ℕ) (s : State) → run (l ++ m) s ≡ run m (run l s)
@@ -105,7 +107,9 @@ module _ (c : ℕ) (ns : List ℕ) where
         size = 1;
         some = omega arith;
         few = omega arith;
-        taken = rw (decimal-digit x h) (next-digit c ns 0 0 x (omega arith) (λ none. omega arith) h ∙ ap (inside c ns 1) (omega arith));
+        taken =
+            rw (decimal-digit x h)
+            (next-digit c ns 0 0 x (omega arith) (λ none. omega arith) h ∙ ap (inside c ns 1) (omega arith));
       }
 
   taken-last : (n x most : ℕ) → Taken c ns n most → most < 9 → 0 < n → n < 10 ^ 9 → x < 10 → Taken c ns (10 * n + x) (suc most)
@@ -116,7 +120,7 @@ module _ (c : ℕ) (ns : List ℕ) where
         some = omega arith;
         few = omega arith;
         taken =
-            ap (λ (l : List ℕ). run l (inside c ns 0 0)) (decimal-snoc n x positive (omega arith) h)
+            ap (λ (l : List ℕ). run l (inside c ns 0 0)) (decimal-snoc n x positive h)
             ∙ run-append (decimal n) ((48 + x) ∷ []) (inside c ns 0 0)
             ∙ ap (λ (s : State). next s (48 + x)) (t .taken)
             ∙ next-digit c ns (t .size) n x (omega arith) (λ some. positive) h;

@@ -9,7 +9,8 @@ use Rattle.line.specs.Grammar.{NineDigits, countOf, numbersOf, lineOf}
 use Rattle.line.specs.Automaton.{start, digitOf, next, run}
 use Rattle.line.specs.Reading.{wallOf, answer, readLine}
 use Rattle.line.specs.Claims.{ReadingSound, ReadingComplete, MalformedExactly}
-use Rattle.line.specs.Worked.{bytes, worked, WorkedLines}
+use Rattle.text.specs.Quoted.{bytes}
+use Rattle.line.specs.Worked.{worked, WorkedLines}
 use Rattle.line.proofs.Completeness.{answer-line}
 use Rattle.line.proofs.Soundness.{run-spells, not-read, answer-spells}
 

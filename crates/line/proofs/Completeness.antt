@@ -1,4 +1,4 @@
--- The line of a record is read as that record: each of its fields is read as its number.
+-- The line of a record is read as that record: each of its fields is read as its number. c is the letter, and ns are the numbers before.
 use Prim.Native.Nat.{ℕ, suc, _+_}
 use mathlib.Core.Path.{_≡_, ap, _∙_}
 use mathlib.Core.List.{List, [], _∷_, _++_, append-assoc, append-nil}
@@ -6,7 +6,8 @@ use native.Mathlib.Omega.{arith}
 use lib.ListN.{length, length-append}
 use borrow.Author.Tests.{lt-ltb, eq-eqb}
 use Rattle.line.specs.declared.Reading.the-variants.{Read}
-use Rattle.line.specs.Grammar.{decimal, fields, NineDigits, countOf}
+use Rattle.text.specs.Decimal.{decimal}
+use Rattle.line.specs.Grammar.{fields, NineDigits, countOf}
 use Rattle.line.specs.Automaton.{State, inside, next, run}
 use Rattle.line.specs.Reading.{wallOf, answer, readLine}
 use Rattle.line.proofs.Automaton.{run-append, next-letter, next-space, decimal-taken}

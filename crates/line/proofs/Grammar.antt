@@ -8,7 +8,8 @@ use lib.Dec.{eqb}
 use lib.ListN.{length, getD, take, drop}
 use lib.Seq.{drop-cons, take-all}
 use borrow.Author.Tests.{eqb-true}
-use Rattle.line.specs.Grammar.{decimal, fields, NineDigits, countOf, letterOf, numbersOf}
+use Rattle.text.specs.Decimal.{decimal}
+use Rattle.line.specs.Grammar.{fields, NineDigits, countOf, letterOf, numbersOf}
 use Rattle.line.specs.Reading.{wallOf}
 use Rattle.line.proofs.Tests.{cond-cases}
 

@@ -1,4 +1,5 @@
 -- Whatever is read as a record is the line of that record: a state other than `wrong` spells out the bytes that lead to it.
+-- c is the letter, ns are the numbers before, d and v how many digits there are and their value.
 use Prim.Native.Nat.{ℕ, _+_, _*_, _^_, _≤_, _<_, zero, suc}
 use mathlib.Core.Bool.{false, cond, _&&_, _||_}
 use mathlib.Core.Path.{_≡_, sym, ap, _∙_}
@@ -11,11 +12,13 @@ use borrow.Author.Tests.{eq-eqb, ne-eqb, eqb-true, eqb-false, ltb-true, ltb-fals
 use Rattle.walls.specs.declared.Wall.{Wall}
 use Rattle.line.specs.declared.Reading.{Reading}
 use Rattle.line.specs.declared.Reading.the-variants.{Read, Malformed}
-use Rattle.line.specs.Grammar.{decimal, fields, NineDigits, countOf, letterOf, numbersOf, lineOf}
+use Rattle.text.specs.Decimal.{decimal}
+use Rattle.line.specs.Grammar.{fields, NineDigits, countOf, letterOf, numbersOf, lineOf}
 use Rattle.line.specs.Automaton.{State, start, lettered, inside, wrong, digitOf, next, run}
 use Rattle.line.specs.Reading.{wallOf, answer}
 use Rattle.line.proofs.Tests.{and-left, and-right, and-none, or-left, or-right, cond-cases}
-use Rattle.line.proofs.Decimal.{decimal-digit, decimal-snoc, value-grows, value-nine}
+use Rattle.text.proofs.Decimal.{decimal-digit}
+use Rattle.line.proofs.Decimal.{decimal-snoc, value-grows, value-nine}
 use Rattle.line.proofs.Automaton.{byte-digit}
 use Rattle.line.proofs.Grammar.{fields-snoc, nineDigits-snoc, numbersOf-wallOf, letterOf-wallOf}
 
@@ -50,7 +53,7 @@ written-snoc zero v x h positive digit =
     rw first (sym (decimal-digit x digit))
 written-snoc (suc d) v x h positive digit =
     rw (ne-eqb (suc d) 0 (λ e. omega arith), ne-eqb (suc d + 1) 0 (λ e. omega arith))
-    (sym (decimal-snoc v x (positive (omega arith)) (omega (arith, value-nine (suc d) v (h .few) (h .small))) digit))
+    (sym (decimal-snoc v x (positive (omega arith)) digit))
 
 -- One digit more: no tenth, and with no leading 0 before it.
 module _ (d v x : ℕ) (h : Digits d v) (room : d ≡ 9 → ⊥) (lone : (eqb d 1 && eqb v 0) ≡ false) (digit : x < 10) where
@@ -73,7 +76,8 @@ module _ (d v x : ℕ) (h : Digits d v) (room : d ≡ 9 → ⊥) (lone : (eqb d 
       → l ++ (48 + x) ∷ [] ≡ c ∷ fields ns ++ 32 ∷ written (d + 1) (10 * v + x)
   bytes-digit c ns l e = rw (e, append-assoc) (ap (λ (m : List ℕ). c ∷ fields ns ++ 32 ∷ m) (written-snoc d v x h positive digit))
 
-bytes-space : (d v c : ℕ) (ns l : List ℕ) → 0 < d → l ≡ c ∷ fields ns ++ 32 ∷ written d v → l ++ 32 ∷ [] ≡ c ∷ fields (ns ++ v ∷ []) ++ 32 ∷ []
+bytes-space : (d v c : ℕ) (ns l : List ℕ) → 0 < d → l ≡ c ∷ fields ns ++ 32 ∷ written d v
+    → l ++ 32 ∷ [] ≡ c ∷ fields (ns ++ v ∷ []) ++ 32 ∷ []
 bytes-space d v c ns l some e = rw (e, fields-snoc, ne-eqb d 0 (λ z. omega arith))
 
 next-spells : (s : State) (l : List ℕ) (b : ℕ) → Spells s l → Spells (next s b) (l ++ b ∷ [])

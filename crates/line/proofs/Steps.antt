@@ -128,7 +128,8 @@ module _ {line : List ℕ} {letter wanted : ℕ} {numbers : List ℕ} {k from : 
             done = λ all. absurd (omega arith);
           }
 
-      module _ {x : ℕ} (e : x ≡ digitOf (getD line at 0)) (other : (eqb (getD line at 0) 32 && ltb 0 digits && ltb (k + 1) wanted) ≡ false) where
+      module _ {x : ℕ} (e : x ≡ digitOf (getD line at 0))
+          (other : (eqb (getD line at 0) 32 && ltb 0 digits && ltb (k + 1) wanted) ≡ false) where
         pub digit-wrong : (ltb 9 x || eqb digits 9 || eqb digits 1 && eqb value 0) ≡ true → readLine line ≡ Malformed
         digit-wrong fault = continues-wrong (i .continues) left (next-inside (getD line at 0) x e ∙ rw (other, fault))
 
@@ -149,7 +150,8 @@ module _ {line : List ℕ} {letter wanted : ℕ} {numbers : List ℕ} {k from : 
     unfolding answer
     line-ended end =
         let some : 0 < digits = omega arith in
-        let ended : readLine line ≡ answer (inside letter (take k numbers) digits value) = i .continues .reads ∙ ap answer (run-end line at _ end) in
+        let ended : readLine line ≡ answer (inside letter (take k numbers) digits value) =
+        i .continues .reads ∙ ap answer (run-end line at _ end) in
         record {
           count = b .count;
           some = b .some;
@@ -157,9 +159,12 @@ module _ {line : List ℕ} {letter wanted : ℕ} {numbers : List ℕ} {k from : 
           upto = omega arith;
           within = i .within;
           more = λ short. record {
-            reads = ended ∙ rw (lt-ltb 0 digits some, ne-eqb (length (take k numbers) + 1) (countOf letter) (λ e. omega (arith, taken)), run-end line at _ end);
+            reads =
+                ended
+                ∙ rw (lt-ltb 0 digits some, ne-eqb (length (take k numbers) + 1) (countOf letter) (λ e. omega (arith, taken)), run-end line at _ end);
           };
-          done = λ all. ended ∙ rw (lt-ltb 0 digits some, eq-eqb (length (take k numbers) + 1) (countOf letter) (omega (arith, taken)), stored);
+          done = λ all. ended
+              ∙ rw (lt-ltb 0 digits some, eq-eqb (length (take k numbers) + 1) (countOf letter) (omega (arith, taken)), stored);
         }
 
 pub all-read : {line : List ℕ} {letter wanted : ℕ} {numbers : List ℕ} {k at : ℕ} → Between line letter wanted numbers k at → wanted ≤ k

@@ -19,18 +19,19 @@ pub data State : Type 0 where
 
 -- The value of a digit's byte, and 10 for any other byte.
 unfoldable pub digitOf : ℕ → ℕ
-digitOf b = cond (leb 48 b && leb b 57) (b - 48) 10
+digitOf byte = cond (leb 48 byte && leb byte 57) (byte - 48) 10
 
--- One byte more. A space ends a number where another is to come. Else a byte is wrong that is no digit, or a tenth digit,
+-- One byte more. In a number, a space ends it where another number is to come. Else a byte is wrong if it is no digit, or a tenth digit,
 -- or a digit behind a leading 0.
 unfoldable pub next : State → ℕ → State
-next start b = cond (eqb (countOf b) 0) wrong (lettered b)
-next (lettered c) b = cond (eqb b 32) (inside c [] 0 0) wrong
-next (inside c ns d v) b =
-    cond (eqb b 32 && ltb 0 d && ltb (length ns + 1) (countOf c)) (inside c (ns ++ v ∷ []) 0 0)
-    (cond (ltb 9 (digitOf b) || eqb d 9 || eqb d 1 && eqb v 0) wrong (inside c ns (d + 1) (10 * v + digitOf b)))
-next wrong b = wrong
+next start byte = cond (eqb (countOf byte) 0) wrong (lettered byte)
+next (lettered letter) byte = cond (eqb byte 32) (inside letter [] 0 0) wrong
+next (inside letter numbers digits value) byte =
+    cond (eqb byte 32 && ltb 0 digits && ltb (length numbers + 1) (countOf letter)) (inside letter (numbers ++ value ∷ []) 0 0)
+    (cond (ltb 9 (digitOf byte) || eqb digits 9 || eqb digits 1 && eqb value 0) wrong
+    (inside letter numbers (digits + 1) (10 * value + digitOf byte)))
+next wrong byte = wrong
 
 unfoldable pub run : List ℕ → State → State
-run [] s = s
-run (b ∷ bs) s = run bs (next s b)
+run [] state = state
+run (byte ∷ bytes) state = run bytes (next state byte)

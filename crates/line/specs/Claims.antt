@@ -10,12 +10,13 @@ use Rattle.line.specs.Reading.{readLine}
 
 -- Whatever is read as a record is the line of that record, and each of its numbers has 1 to 9 digits.
 abbrev pub ReadingSound : Type 0
-ReadingSound = (l : List ℕ) (w : Wall) → readLine l ≡ Read w → (l ≡ lineOf w) × NineDigits (numbersOf w)
+ReadingSound = (line : List ℕ) (wall : Wall) → readLine line ≡ Read wall → (line ≡ lineOf wall) × NineDigits (numbersOf wall)
 
 -- The line of a record whose numbers have 1 to 9 digits each is read as that record.
 abbrev pub ReadingComplete : Type 0
-ReadingComplete = (w : Wall) → NineDigits (numbersOf w) → readLine (lineOf w) ≡ Read w
+ReadingComplete = (wall : Wall) → NineDigits (numbersOf wall) → readLine (lineOf wall) ≡ Read wall
 
 -- Refusal 1 is given exactly if the bytes are "not a line of this form".
 abbrev pub MalformedExactly : Type 0
-MalformedExactly = (l : List ℕ) → (readLine l ≡ Malformed) ↔ ((w : Wall) → NineDigits (numbersOf w) → l ≡ lineOf w → ⊥)
+MalformedExactly =
+    (line : List ℕ) → (readLine line ≡ Malformed) ↔ ((wall : Wall) → NineDigits (numbersOf wall) → line ≡ lineOf wall → ⊥)

@@ -1,46 +1,38 @@
--- Document 01, "The two lines": the bytes of the line that a record stands in.
-use Prim.Native.Nat.{ℕ, zero, suc, _+_, _/_, _%_, _^_, _<_}
+-- Document 01, "The two lines": the bytes of a record's line. Of the bytes, 32 is the space, 48 to 57 are the digits, 67 is `C` and 83 is `S`.
+use Prim.Native.Nat.{ℕ, _^_}
 use mathlib.Core.Bool.{cond}
 use mathlib.Core.List.{List, [], _∷_, _++_}
-use lib.Dec.{ltb, eqb}
+use lib.Dec.{eqb}
+use Rattle.text.specs.Decimal.{decimal}
+use Rattle.basis.specs.Range.{AllBelow}
+use Rattle.storey.specs.Record as storey-record
+use Rattle.cellar.specs.Record as cellar-record
 use Rattle.walls.specs.declared.Wall.{Wall}
 use Rattle.walls.specs.declared.Wall.the-variants.{Storey, Cellar}
 
--- "Numbers are decimal, .. without leading zeros (a lone 0 is allowed)": the digits of n as bytes, where `most` are enough.
-unfoldable pub digits : ℕ → ℕ → List ℕ
-digits zero n = []
-digits (suc most) n = cond (ltb n 10) ((48 + n) ∷ []) (digits most (n / 10) ++ (48 + n % 10) ∷ [])
-
--- 20 digits are enough for every number of 64 bits.
-abbrev pub decimal : ℕ → List ℕ
-decimal n = digits 20 n
-
--- ".. 1 to 9 digits ..": each number is below 10^9.
+-- "Numbers are decimal, 1 to 9 digits, without leading zeros (a lone 0 is allowed)": each is below 10^9, and `decimal` gives its digits.
 abbrev pub NineDigits : List ℕ → Type 0
 NineDigits [] = Unit {0}
-NineDigits (n ∷ ns) = (n < 10 ^ 9) × NineDigits ns
+NineDigits (number ∷ numbers) = (number < 10 ^ 9) × NineDigits numbers
 
 -- ".. with one space before each."
 unfoldable pub fields : List ℕ → List ℕ
 fields [] = []
-fields (n ∷ ns) = 32 ∷ decimal n ++ fields ns
+fields (number ∷ numbers) = 32 ∷ decimal number ++ fields numbers
 
 -- "`S` and 16 numbers", "`C` and 10 numbers": how many follow a letter. No line begins with another byte.
 unfoldable pub countOf : ℕ → ℕ
 countOf letter = cond (eqb letter 83) 16 (cond (eqb letter 67) 10 0)
 
 abbrev pub letterOf : Wall → ℕ
-letterOf (Storey w) = 83
-letterOf (Cellar w) = 67
+letterOf (Storey wall) = 83
+letterOf (Cellar wall) = 67
 
 -- The numbers of a record, in document 01's order.
 abbrev pub numbersOf : Wall → List ℕ
-numbersOf (Storey w) =
-    w .usage ∷ w .thickness ∷ w .height ∷ w .length ∷ w .held ∷ w .distance ∷ w .support ∷ w .span
-    ∷ w .bearing ∷ w .strength ∷ w .bonded ∷ w .dead ∷ w .imposed ∷ w .floorload ∷ w .building ∷ w .storeys ∷ []
-numbersOf (Cellar w) =
-    w .thickness ∷ w .height ∷ w .fill ∷ w .spacing ∷ w .weight ∷ w .strength ∷ w .bonded ∷ w .dead ∷ w .imposed ∷ w .ground ∷ []
+numbersOf (Storey w) = storey-record.numbers w
+numbersOf (Cellar w) = cellar-record.numbers w
 
 -- "A line ends where its bytes end."
 abbrev pub lineOf : Wall → List ℕ
-lineOf w = letterOf w ∷ fields (numbersOf w)
+lineOf wall = letterOf wall ∷ fields (numbersOf wall)

@@ -17,55 +17,57 @@ use Rattle.line.specs.Automaton.{State, start, lettered, inside, wrong, 
 
 -- The record of a list of numbers, in document 01's order.
 abbrev pub storeyOf : List ℕ → StoreyWall
-storeyOf ns =
+storeyOf numbers =
     record {
-      usage = getD ns 0 0;
-      thickness = getD ns 1 0;
-      height = getD ns 2 0;
-      length = getD ns 3 0;
-      held = getD ns 4 0;
-      distance = getD ns 5 0;
-      support = getD ns 6 0;
-      span = getD ns 7 0;
-      bearing = getD ns 8 0;
-      strength = getD ns 9 0;
-      bonded = getD ns 10 0;
-      dead = getD ns 11 0;
-      imposed = getD ns 12 0;
-      floorload = getD ns 13 0;
-      building = getD ns 14 0;
-      storeys = getD ns 15 0;
+      usage = getD numbers 0 0;
+      thickness = getD numbers 1 0;
+      height = getD numbers 2 0;
+      length = getD numbers 3 0;
+      held = getD numbers 4 0;
+      distance = getD numbers 5 0;
+      support = getD numbers 6 0;
+      span = getD numbers 7 0;
+      bearing = getD numbers 8 0;
+      strength = getD numbers 9 0;
+      bonded = getD numbers 10 0;
+      dead = getD numbers 11 0;
+      imposed = getD numbers 12 0;
+      floorload = getD numbers 13 0;
+      building = getD numbers 14 0;
+      storeys = getD numbers 15 0;
     }
 
 abbrev pub cellarOf : List ℕ → CellarWall
-cellarOf ns =
+cellarOf numbers =
     record {
-      thickness = getD ns 0 0;
-      height = getD ns 1 0;
-      fill = getD ns 2 0;
-      spacing = getD ns 3 0;
-      weight = getD ns 4 0;
-      strength = getD ns 5 0;
-      bonded = getD ns 6 0;
-      dead = getD ns 7 0;
-      imposed = getD ns 8 0;
-      ground = getD ns 9 0;
+      thickness = getD numbers 0 0;
+      height = getD numbers 1 0;
+      fill = getD numbers 2 0;
+      spacing = getD numbers 3 0;
+      weight = getD numbers 4 0;
+      strength = getD numbers 5 0;
+      bonded = getD numbers 6 0;
+      dead = getD numbers 7 0;
+      imposed = getD numbers 8 0;
+      ground = getD numbers 9 0;
     }
 
+-- `S` is the letter of a storey wall, `C` that of a cellar wall.
 unfoldable pub wallOf : ℕ → List ℕ → Wall
-wallOf letter ns = cond (eqb letter 83) (Storey (storeyOf ns)) (Cellar (cellarOf ns))
+wallOf letter numbers = cond (eqb letter 83) (Storey (storeyOf numbers)) (Cellar (cellarOf numbers))
 
 -- A line may end only inside the last number that its letter asks for.
 unfoldable pub answer : State → Reading
 answer start = Malformed
-answer (lettered c) = Malformed
-answer (inside c ns d v) = cond (ltb 0 d && eqb (length ns + 1) (countOf c)) (Read (wallOf c (ns ++ v ∷ []))) Malformed
+answer (lettered letter) = Malformed
+answer (inside letter numbers digits value) =
+    cond (ltb 0 digits && eqb (length numbers + 1) (countOf letter)) (Read (wallOf letter (numbers ++ value ∷ []))) Malformed
 answer wrong = Malformed
 
 unfoldable pub readLine : List ℕ → Reading
-readLine l = answer (run l start)
+readLine line = answer (run line start)
 
 -- The result of a reading. Malformed is refusal 1, "not a line of this form"; a record has the result of its own check.
-abbrev pub resultOf : (Wall → CheckResult) → Reading → CheckResult
-resultOf check (Read w) = check w
-resultOf check Malformed = refusedWith 1
+abbrev pub readingResult : (Wall → CheckResult) → Reading → CheckResult
+readingResult check (Read wall) = check wall
+readingResult check Malformed = refusedWith 1

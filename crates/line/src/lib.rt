@@ -12,7 +12,7 @@ const STOREY_NUMBERS: usize = 16;
 
 const CELLAR_NUMBERS: usize = 10;
 
-// The most digits that a number has.
+// How many digits a number has at most.
 const MOST_DIGITS: u64 = 9;
 
 // What a line is read as.
@@ -34,7 +34,7 @@ fn count(letter: u8) -> usize
     }
 }
 
-// The value of a digit, and 10 for any other byte.
+// The value of a digit; 10 for any other byte.
 fn digit(byte: u8) -> u64
     ensures { λ value. ⌜ value ≡ digitOf byte ⌝ }
 {
@@ -84,17 +84,19 @@ fn cellar_wall(numbers: &[u64; STOREY_NUMBERS]) -> CellarWall
     }
 }
 
-// The record of a line with this letter and these numbers.
+// The record of a line with this letter and these numbers. An assignment in place of a second return: the compiler then copies
+// the numbers in one piece.
 fn wall(letter: u8, numbers: &[u64; STOREY_NUMBERS]) -> Wall
     ensures { λ wall. ⌜ wall ≡ wallOf letter (now (numbers .entry)) ⌝ }
 {
+    let mut wall = Wall::Cellar(cellar_wall(numbers));
     if letter == b'S' {
-        return Wall::Storey(storey_wall(numbers));
+        wall = Wall::Storey(storey_wall(numbers));
     }
-    Wall::Cellar(cellar_wall(numbers))
+    wall
 }
 
-// Takes each byte once, front to back. A wrong byte leaves both loops; `k` then counts fewer numbers than are wanted.
+// Takes each byte once, front to back. A wrong byte leaves both loops, with fewer numbers than are wanted.
 pub fn read(line: &[u8]) -> Reading
     ensures { λ reading. ⌜ reading ≡ readLine (now (line .entry)) ⌝ }
 {

@@ -1,5 +1,4 @@
 -- Laws of decimal text, of the sign, of a result's text and of what is written; and the proofs of the claims of specs/.
-pub mod Decimal
 pub mod Reading
 pub mod Sign
 pub mod Text

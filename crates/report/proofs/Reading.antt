@@ -8,11 +8,11 @@ use lib.IntN.{ℤ, pos, negsuc, negℤ}
 use lib.ListN.{length, getD, drop}
 use borrow.Author.Tests.{eq-eqb, ne-eqb}
 use Rattle.buffer.proofs.Overwrite.{overwrite-start}
-use Rattle.report.specs.Decimal.{decimal}
+use Rattle.text.specs.Decimal.{decimal}
 use Rattle.report.specs.Text.{signed, resultText}
 use Rattle.report.specs.Reading.{readNumber, readSigned, readResult, TextReadsBack, BufferReadsBack}
 use Rattle.report.proofs.Text.{text-from-refusal, append-cons}
-use Rattle.report.proofs.Decimal.{by-digits, decimal-digit, decimal-more}
+use Rattle.text.proofs.Decimal.{by-digits, decimal-digit, decimal-more}
 
 -- ── a number ──
 readNumber-digit : (stop value digit : ℕ) (rest : List ℕ) → stop < 48 → readNumber stop value ((48 + digit) ∷ rest) ≡ readNumber stop (10 * value + digit) rest

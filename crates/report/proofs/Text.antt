@@ -6,9 +6,9 @@ use mathlib.Core.Path.{_≡_}
 use lib.IntN.{ℤ, pos, negsuc, natAbs}
 use lib.ListN.{length, length-append}
 use Rattle.basis.specs.declared.CheckResult.{CheckResult}
-use Rattle.report.specs.Decimal.{decimal}
+use Rattle.text.specs.Decimal.{decimal}
 use Rattle.report.specs.Text.{signed, resultText, TextFits}
-use Rattle.report.proofs.Decimal.{decimal-length-bound}
+use Rattle.text.proofs.Decimal.{decimal-length-bound}
 
 -- ── its length ──
 pub text-length :

@@ -4,7 +4,7 @@ use mathlib.Core.List.{List, [], _∷_, _++_}
 use lib.IntN.{ℤ, pos, negsuc, natAbs}
 use lib.ListN.{length}
 use Rattle.basis.specs.declared.CheckResult.{CheckResult}
-use Rattle.report.specs.Decimal.{decimal}
+use Rattle.text.specs.Decimal.{decimal}
 
 -- `negsuc n` is -(n + 1). Byte 45 is the minus sign.
 unfoldable pub signed : ℤ → List ℕ

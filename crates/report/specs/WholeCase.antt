@@ -1,18 +1,12 @@
 -- The five lines that document 01's whole case prints.
 use Prim.Native.Nat.{ℕ}
-use Prim.Native.Char.{code}
-use Prim.Native.String as Quoted
 use Prim.Native.String.{String}
 use mathlib.Core.List.{List, [], _∷_, map}
 use mathlib.Core.Path.{_≡_}
 use lib.IntN.{ℤ, pos, negsuc}
 use Rattle.basis.specs.declared.CheckResult.{CheckResult}
+use Rattle.text.specs.Quoted.{bytes}
 use Rattle.report.specs.Text.{resultText}
-
--- The bytes of a quoted text.
-unfoldable pub bytes : String → List ℕ
-bytes Quoted.[] = []
-bytes (Quoted._∷_ letter rest) = code letter ∷ bytes rest
 
 abbrev result : ℕ → ℕ → ℕ → ℕ → ℤ → CheckResult
 result refusal second load resistance spare = record { refusal = refusal; second = second; load = load; resistance = resistance; spare = spare }

@@ -4,7 +4,7 @@ ghost use mathlib.Core.List.{[], _∷_, _++_};
 ghost use Prim.Native.Nat.{_+_, _≤_, _<_};
 ghost use lib.ListN.{length};
 ghost use Rattle.buffer.specs.Overwrite.{overwrite};
-ghost use Rattle.report.specs.Decimal.{decimal};
+ghost use Rattle.text.specs.Decimal.{decimal};
 
 // How many digits a number has. `power` goes through 1, 10, 100, .. while ten times it is within the number; it is compared with the number's
 // tenth part, so that nothing overflows.

@@ -1,11 +1,16 @@
 -- What a passed range test says of the record.
-use Prim.Native.Nat.{_≤_, _*_}
-use mathlib.Core.Bool.{true, false}
+use Prim.Native.Nat.{_≤_, _<_, _*_}
+use mathlib.Core.Bool.{Bool, true, false}
 use mathlib.Core.Path.{_≡_}
+use native.Mathlib.Omega.{arith}
 use native.Mathlib.Nat.{mul-le-mul}
+use borrow.Author.Tests.{eqb-true}
 use lib.Dec.{eqb}
+use Rattle.basis.specs.Range.{AllBelow}
+use Rattle.basis.proofs.Choice.{cond-cases}
 use Rattle.basis.proofs.Range.{chain, chain-every, everyHolds-all, within-bounds}
 use Rattle.storey.specs.declared.StoreyWall.{StoreyWall}
+use Rattle.storey.specs.Record.{numbers}
 use Rattle.storey.specs.Range.{ranges, distanceInRange, inRange}
 
 pub in-range-chain : (w : StoreyWall) → chain true (ranges w) ≡ inRange w
@@ -49,3 +54,66 @@ distance-bounds w passed further =
 
 pub area-most : (w : StoreyWall) → inRange w ≡ true → w .length * w .thickness ≤ 20000000
 area-most w passed = mul-le-mul (range-bounds w passed .length-most) (range-bounds w passed .thickness-most)
+
+distance-small : (w : StoreyWall) → inRange w ≡ true → w .distance < 100000000
+unfolding inRange distanceInRange
+distance-small w passed =
+    let all = everyHolds-all (ranges w) passed in
+    cond-cases (λ (test : Bool). test ≡ true → w .distance < 100000000) (eqb (w .held) 2)
+    (λ _ none. omega (arith, eqb-true (w .distance) 0 none))
+    (λ _ some·. omega (arith, within-bounds 1 30000 (w .distance) some· .1))
+    (all .1 .1 .1 .1 .1 .0)
+
+-- Every number of a record in range is below 10^8, so it has at most 8 digits and is held by an f64.
+pub numbers-small : (w : StoreyWall) → inRange w ≡ true → AllBelow 100000000 (numbers w)
+unfolding inRange
+numbers-small w passed =
+    let all = everyHolds-all (ranges w) passed in (
+      omega (arith, within-bounds 1 4 (w .usage) (all .0) .1),
+      (
+        omega (arith, within-bounds 1 1000 (w .thickness) (all .1 .0) .1),
+        (
+          omega (arith, within-bounds 1 20000 (w .height) (all .1 .1 .0) .1),
+          (
+            omega (arith, within-bounds 1 20000 (w .length) (all .1 .1 .1 .0) .1),
+            (
+              omega (arith, within-bounds 2 4 (w .held) (all .1 .1 .1 .1 .0) .1),
+              (
+                distance-small w passed,
+                (
+                  omega (arith, within-bounds 1 4 (w .support) (all .1 .1 .1 .1 .1 .1 .0) .1),
+                  (
+                    omega (arith, within-bounds 1 20000 (w .span) (all .1 .1 .1 .1 .1 .1 .1 .0) .1),
+                    (
+                      omega (arith, range-bounds w passed .bearing-most, range-bounds w passed .thickness-most),
+                      (
+                        omega (arith, within-bounds 1 5000 (w .strength) (all .1 .1 .1 .1 .1 .1 .1 .1 .1 .0) .1),
+                        (
+                          omega (arith, within-bounds 0 1 (w .bonded) (all .1 .1 .1 .1 .1 .1 .1 .1 .1 .1 .0) .1),
+                          (
+                            omega (arith, within-bounds 1 10000000 (w .dead) (all .1 .1 .1 .1 .1 .1 .1 .1 .1 .1 .1 .0) .1),
+                            (
+                              omega (arith, within-bounds 0 10000000 (w .imposed) (all .1 .1 .1 .1 .1 .1 .1 .1 .1 .1 .1 .1 .0) .1),
+                              (
+                                omega (arith, within-bounds 0 100000 (w .floorload) (all .1 .1 .1 .1 .1 .1 .1 .1 .1 .1 .1 .1 .1 .0) .1),
+                                (
+                                  omega (arith, within-bounds 1 200000 (w .building) (all .1 .1 .1 .1 .1 .1 .1 .1 .1 .1 .1 .1 .1 .1 .0) .1),
+                                  (
+                                    omega (arith, within-bounds 1 20 (w .storeys) (all .1 .1 .1 .1 .1 .1 .1 .1 .1 .1 .1 .1 .1 .1 .1 .0) .1),
+                                    tt,
+                                  ),
+                                ),
+                              ),
+                            ),
+                          ),
+                        ),
+                      ),
+                    ),
+                  ),
+                ),
+              ),
+            ),
+          ),
+        ),
+      ),
+    )

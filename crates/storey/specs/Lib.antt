@@ -1,4 +1,5 @@
 -- The storey wall of document 01: one file for each of its headings and paragraphs, in its order.
+pub mod Record
 pub mod Range
 pub mod BucklingLength
 pub mod Resistance

@@ -18,7 +18,7 @@ use Rattle.walls.specs.declared.Wall.the-variants.{Storey, Cellar}
 use Rattle.walls.specs.Check.{check}
 use Rattle.line.specs.declared.Reading.{Reading}
 use Rattle.line.specs.declared.Reading.the-variants.{Read, Malformed}
-use Rattle.line.specs.Reading.{readLine, resultOf}
+use Rattle.line.specs.Reading.{readLine, readingResult}
 use Rattle.worksheet.specs.declared.Holding.the-variants.{TwoSides, ThreeSides, FourSides}
 use Rattle.worksheet.specs.declared.Row.{Row}
 use Rattle.worksheet.specs.Row.{rowWall}
@@ -36,7 +36,7 @@ pub check-below : (w : Wall) → Below 1000000000 (check w)
 check-below (Storey w) = storey-claims.result-is-bounded w
 check-below (Cellar w) = cellar-claims.result-is-bounded w
 
-reading-below : (r : Reading) → Below 1000000000 (resultOf check r)
+reading-below : (r : Reading) → Below 1000000000 (readingResult check r)
 reading-below (Read w) = check-below w
 reading-below Malformed = refused-below 1000000000 1 (omega arith)
 

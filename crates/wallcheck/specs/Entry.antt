@@ -8,14 +8,14 @@ use Rattle.basis.specs.declared.CheckResult.{CheckResult}
 use Rattle.basis.specs.Result.{refusedWith}
 use Rattle.walls.specs.declared.Wall.the-variants.{Storey}
 use Rattle.walls.specs.Check.{check}
-use Rattle.line.specs.Reading.{readLine, resultOf}
+use Rattle.line.specs.Reading.{readLine, readingResult}
 use Rattle.worksheet.specs.declared.Row.{Row}
 use Rattle.worksheet.specs.Row.{rowWall}
 use Rattle.report.specs.Text.{resultText}
 
 -- A line: refusal 1 where it is not of the form, else the result of its record.
 unfoldable pub lineResult : List ℕ → CheckResult
-lineResult line = resultOf check (readLine line)
+lineResult line = readingResult check (readLine line)
 
 -- "Its result equals that of the line with the same numbers." A cell that is no whole number is in no range, hence refusal 2.
 unfoldable pub rowResult : Row → CheckResult

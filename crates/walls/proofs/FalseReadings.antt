@@ -1,7 +1,8 @@
 -- Counterexamples to the plausible readings that are false.
 use mathlib.Core.Path.{refl}
 use native.Mathlib.Omega.{arith}
-use Rattle.walls.specs.Examples.{storeyRecord, exampleA}
+use Rattle.storey.specs.Record.{storeyRecord}
+use Rattle.walls.specs.Examples.{exampleA}
 use Rattle.walls.specs.FalseReadings.{LowerIsShorter, LowerStaysAccepted, NarrowerIsStiffer, ThickerIsStronger, LengthToNearest, RoundedBeforeReduction}
 use Rattle.walls.proofs.Computes.{computes}
 

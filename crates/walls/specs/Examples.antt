@@ -1,43 +1,9 @@
--- Records written as document 01 writes their lines, number by number.
+-- The example records of document 01, written as it writes their lines, number by number.
 use Prim.Native.Nat.{ℕ}
 use Rattle.storey.specs.declared.StoreyWall.{StoreyWall}
+use Rattle.storey.specs.Record.{storeyRecord}
 use Rattle.cellar.specs.declared.CellarWall.{CellarWall}
-
-abbrev pub storeyRecord : (use· t h w held c support L a F bonded G Q q H n : ℕ) → StoreyWall
-storeyRecord use· t h w held c support L a F bonded G Q q H n =
-    record {
-      usage = use·;
-      thickness = t;
-      height = h;
-      length = w;
-      held = held;
-      distance = c;
-      support = support;
-      span = L;
-      bearing = a;
-      strength = F;
-      bonded = bonded;
-      dead = G;
-      imposed = Q;
-      floorload = q;
-      building = H;
-      storeys = n;
-    }
-
-abbrev pub cellarRecord : (t h e c y F bonded G Q p : ℕ) → CellarWall
-cellarRecord t h e c y F bonded G Q p =
-    record {
-      thickness = t;
-      height = h;
-      fill = e;
-      spacing = c;
-      weight = y;
-      strength = F;
-      bonded = bonded;
-      dead = G;
-      imposed = Q;
-      ground = p;
-    }
+use Rattle.cellar.specs.Record.{cellarRecord}
 
 -- Example A, `S 1 175 2625 5000 2 0 1 5000 175 500 0 60000 90000 2250 9000 3`, with another clear height and holding.
 abbrev pub exampleA : (h held c : ℕ) → StoreyWall

@@ -9,7 +9,7 @@ use Rattle.storey.specs.Range.{inRange}
 use Rattle.storey.specs.BucklingLength.{exactLength, bucklingLength}
 use Rattle.storey.specs.Resistance.{unreduced, reduction, resistance}
 use Rattle.storey.specs.Check.{check}
-use Rattle.walls.specs.Examples.{storeyRecord}
+use Rattle.storey.specs.Record.{storeyRecord}
 
 -- A storey record with another clear height, distance c, thickness with full bearing.
 

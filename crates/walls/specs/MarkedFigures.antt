@@ -5,10 +5,11 @@ use mathlib.Core.List.{List, [], _∷_}
 use mathlib.Core.Path.{_≡_}
 use lib.Dec.{eqb}
 use Rattle.basis.specs.declared.CheckResult.{CheckResult}
+use Rattle.storey.specs.Record.{storeyRecord}
 use Rattle.walls.specs.declared.Wall.{Wall}
 use Rattle.walls.specs.declared.Wall.the-variants.{Storey, Cellar}
 use Rattle.walls.specs.Check.{check}
-use Rattle.walls.specs.Examples.{storeyRecord, exampleA, exampleK}
+use Rattle.walls.specs.Examples.{exampleA, exampleK}
 
 -- A record, which number of its result is marked, and the figure.
 pub record Figure : Type 0 where

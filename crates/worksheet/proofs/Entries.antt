@@ -6,7 +6,9 @@ use mathlib.Core.Path.{_≡_, refl, ap}
 use lib.ListN.{getD}
 use Rattle.storey.specs.declared.StoreyWall.{StoreyWall}
 use Rattle.worksheet.specs.Cell.{cellBound}
-use Rattle.worksheet.specs.Row.{Entry, fixed, cell, entryNumber, rowWall, numbers, entries, Each, EntryIs, AllBelow, RowIsItsNumbers, NoneIfNotWhole, OtherCellsLeaveNone}
+use Rattle.storey.specs.Record.{numbers}
+use Rattle.basis.specs.Range.{AllBelow}
+use Rattle.worksheet.specs.Row.{Entry, fixed, cell, entryNumber, rowWall, entries, Each, EntryIs, RowIsItsNumbers, NoneIfNotWhole, OtherCellsLeaveNone}
 use Rattle.worksheet.proofs.Number.{cell-is-its-value, other-cells-are-none}
 
 abbrev fromNumbers : List ℕ → StoreyWall

@@ -1,11 +1,13 @@
 -- "A worksheet row is an `S` record whose quantities are f64 cells, all 14 numbers other than held and c."
 -- "Its holding is given as two sides, three sides with the edge distance, or four sides with the spacing, the distance being a cell too."
-use Prim.Native.Nat.{ℕ, _<_}
+use Prim.Native.Nat.{ℕ}
 use mathlib.Core.List.{List, [], _∷_}
 use mathlib.Core.Logic.{_↔_}
 use mathlib.Core.Path.{_≡_}
 use lib.Ieee.{Float}
+use Rattle.basis.specs.Range.{AllBelow}
 use Rattle.storey.specs.declared.StoreyWall.{StoreyWall}
+use Rattle.storey.specs.Record.{numbers}
 use Rattle.worksheet.specs.declared.Holding.{Holding}
 use Rattle.worksheet.specs.declared.Holding.the-variants.{TwoSides, ThreeSides, FourSides}
 use Rattle.worksheet.specs.declared.Row.{Row}
@@ -56,27 +58,7 @@ rowWall r = record {
 -- ---- what is proved of it, in proofs/Entries.antt
 
 -- "A record is the numbers of one line; a worksheet row counts as the line with the same numbers."
--- The numbers of a record and what a row has in their places, both in document 01's order.
-abbrev pub numbers : StoreyWall → List ℕ
-numbers w =
-    w .usage
-    ∷ w .thickness
-    ∷ w .height
-    ∷ w .length
-    ∷ w .held
-    ∷ w .distance
-    ∷ w .support
-    ∷ w .span
-    ∷ w .bearing
-    ∷ w .strength
-    ∷ w .bonded
-    ∷ w .dead
-    ∷ w .imposed
-    ∷ w .floorload
-    ∷ w .building
-    ∷ w .storeys
-    ∷ []
-
+-- What a row has in the places of a record's numbers, in document 01's order.
 abbrev pub entries : Row → List Entry
 entries r =
     cell (r .usage)
@@ -111,10 +93,6 @@ EntryIs (cell x) n = IsWhole x n
 -- The row has the numbers of the record.
 abbrev pub SameNumbers : Row → StoreyWall → Type 0
 SameNumbers r w = Each EntryIs (entries r) (numbers w)
-
-abbrev pub AllBelow : ℕ → List ℕ → Type 0
-AllBelow m [] = Unit
-AllBelow m (n ∷ ns) = (n < m) × AllBelow m ns
 
 -- A row turns into a record exactly if it has the record's numbers, where these are below the bound, as all that are in range are.
 abbrev pub RowIsItsNumbers : Type 0

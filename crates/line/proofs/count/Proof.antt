@@ -1,3 +1,4 @@
+-- `line::count` meets its contract: the letter is one of the two, or neither.
 use borrow.Author.Tests.{ne-eqb}
 use Rattle.line.specs.Grammar.{countOf}
 use Rattle.line.proofs.count.Statement.{statement}

@@ -1,3 +1,4 @@
+-- `line::digit` meets its contract: its test is the definition's.
 use borrow.Author.Needs.{needs}
 use borrow.Author.Tests.{leb-true}
 use Rattle.line.specs.Automaton.{digitOf}

@@ -59,7 +59,8 @@ returns-2 c =
 numbers-holds : tie.Need-numbers-holds Inv-digits μ-digits Inv-numbers μ-numbers
 unfolding countOf
 numbers-holds c =
-    opened _ _ (c .before .before .before .count .ensures) (omega arith) (c .before .before .if2 .left) _ (omega arith) (not-false _ (c .if3 .left))
+    opened _ _ (c .before .before .before .count .ensures) (omega arith) (c .before .before .if2 .left)
+    _ (omega arith) (not-false _ (c .if3 .left))
 
 digits-holds : tie.Need-digits-holds Inv-digits μ-digits Inv-numbers μ-numbers
 digits-holds c = begun (c .before .numbers .inv) (turn c .0) (turn c .1)
@@ -93,8 +94,10 @@ digits-less c = omega arith
 
 digits-again : tie.Need-digits-again Inv-digits μ-digits Inv-numbers μ-numbers
 digits-again c =
-    digit-taken (c .before .before .before .before .before .before .before .numbers .inv) (turn (c .before .before .before .before .before .before) .0)
-    (c .before .before .before .before .before .digits .inv) (c .before .before .before .before .digits-test .taken) (c .before .digit .ensures) (c .before .before .if4 .left) (c .if5 .left)
+    let in-digits = c .before .before .before .before in
+    let in-numbers = in-digits .before .before in
+    digit-taken (in-numbers .before .numbers .inv) (turn in-numbers .0) (in-digits .before .digits .inv) (in-digits .digits-test .taken)
+    (c .before .digit .ensures) (c .before .before .if4 .left) (c .if5 .left)
 
 mul-numbers : tie.Need-mul-numbers Inv-digits μ-digits Inv-numbers μ-numbers
 unfolding countOf

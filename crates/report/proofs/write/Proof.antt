@@ -14,7 +14,7 @@ use borrow.Author.Needs.{needs}
 use Rattle.basis.specs.declared.CheckResult.{CheckResult}
 use Rattle.buffer.specs.Overwrite.{overwrite}
 use Rattle.buffer.proofs.Overwrite.{overwrite-length, overwrite-joins-before}
-use Rattle.report.specs.Decimal.{decimal}
+use Rattle.text.specs.Decimal.{decimal}
 use Rattle.report.specs.Text.{signed, resultText}
 use Rattle.report.proofs.Text.{text-length, text-from-refusal, fromSpare, fromResistance, fromLoad, fromSecond, fromRefusal}
 use Rattle.report.proofs.Written.{written-fits, written-beyond}

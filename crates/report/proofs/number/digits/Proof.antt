@@ -5,8 +5,8 @@ use native.Mathlib.Nat.{div-one, div-div-eq-div-mul, le-div-iff-mul-le, div-lt-i
 use native.Mathlib.Omega.{arith}
 use mathlib.Core.Path.{_≡_, ap, _∙_}
 use lib.ListN.{length}
-use Rattle.report.specs.Decimal.{decimal}
-use Rattle.report.proofs.Decimal.{decimal-length-digit, decimal-length-more, decimal-length-u64}
+use Rattle.text.specs.Decimal.{decimal}
+use Rattle.text.proofs.Decimal.{decimal-length-digit, decimal-length-more, decimal-length-u64}
 use Rattle.report.proofs.number.digits.Statement.{statement}
 use Rattle.report.proofs.number.digits.Tie as tie
 

@@ -7,8 +7,8 @@ use mathlib.Core.Path.{_≡_, refl, sym, _∙_}
 use lib.ListN.{length, set, length-set}
 use Rattle.buffer.specs.Overwrite.{overwrite}
 use Rattle.buffer.proofs.Overwrite.{overwrite-byte, overwrite-byte-behind}
-use Rattle.report.specs.Decimal.{decimal}
-use Rattle.report.proofs.Decimal.{decimal-digit, decimal-more, decimal-length-digit, decimal-length-more}
+use Rattle.text.specs.Decimal.{decimal}
+use Rattle.text.proofs.Decimal.{decimal-digit, decimal-more, decimal-length-digit, decimal-length-more}
 use Rattle.report.proofs.number.put_before.Statement.{statement}
 use Rattle.report.proofs.number.put_before.Tie as tie
 

@@ -5,7 +5,7 @@ use lib.IntN.{natAbs}
 use lib.ListN.{length}
 use mir.Facts.{toZ-ofZ}
 use borrow.Author.Needs.{needs}
-use Rattle.report.specs.Decimal.{decimal}
+use Rattle.text.specs.Decimal.{decimal}
 use Rattle.report.proofs.Sign.{signed-negative, signed-nonnegative}
 use Rattle.report.proofs.signed.length.Statement.{statement}
 use Rattle.report.proofs.signed.length.Tie as tie

@@ -9,7 +9,7 @@ use mir.Facts.{toZ-ofZ}
 use borrow.Author.Needs.{needs}
 use Rattle.buffer.specs.Overwrite.{overwrite}
 use Rattle.buffer.proofs.Overwrite.{overwrite-byte-before}
-use Rattle.report.specs.Decimal.{decimal}
+use Rattle.text.specs.Decimal.{decimal}
 use Rattle.report.proofs.Sign.{signed-length-least, signed-negative, signed-nonnegative}
 use Rattle.report.proofs.signed.put_before.Statement.{statement}
 use Rattle.report.proofs.signed.put_before.Tie as tie

@@ -7,7 +7,7 @@ use mathlib.Core.List.{[], _∷_, _++_}
 use mathlib.Core.Path.{_≡_, sym, ap, _∙_}
 use lib.ListN.{length, length-append}
 use borrow.Author.Tests.{lt-ltb, le-ltb}
-use Rattle.report.specs.Decimal.{decimal, decimalWithin}
+use Rattle.text.specs.Decimal.{decimal, decimalWithin}
 
 decimalWithin-digit : (k n : ℕ) → n < 10 → decimalWithin (suc k) n ≡ (48 + n) ∷ []
 unfolding decimalWithin

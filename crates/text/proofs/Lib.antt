@@ -1,0 +1,2 @@
+-- Laws of the decimal digits of a number.
+pub mod Decimal

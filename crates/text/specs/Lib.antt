@@ -1,0 +1,3 @@
+-- Numbers and quoted texts as bytes.
+pub mod Decimal
+pub mod Quoted
