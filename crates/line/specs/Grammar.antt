@@ -12,8 +12,7 @@ use Rattle.walls.specs.declared.Wall.the-variants.{Storey, Cellar}
 
 -- "Numbers are decimal, 1 to 9 digits, without leading zeros (a lone 0 is allowed)": each is below 10^9, and `decimal` gives its digits.
 abbrev pub NineDigits : List ℕ → Type 0
-NineDigits [] = Unit {0}
-NineDigits (number ∷ numbers) = (number < 10 ^ 9) × NineDigits numbers
+NineDigits numbers = AllBelow (10 ^ 9) numbers
 
 -- ".. with one space before each."
 unfoldable pub fields : List ℕ → List ℕ
