@@ -46,6 +46,28 @@ not-T-false false _ = refl
 pub or-other : (a b : Bool) → a ≡ false → T (a || b) → T b
 or-other a b isnt either = subst (λ (x : Bool). T (x || b)) isnt either
 
+-- The parts of a joined test
+
+pub and-left : (a b : Bool) → (a && b) ≡ true → a ≡ true
+and-left true b both = refl
+and-left false b both = both
+
+pub and-right : (a b : Bool) → (a && b) ≡ true → b ≡ true
+and-right true b both = both
+and-right false b both = absurd (false≢true both)
+
+pub and-none : (a b : Bool) → (a && b) ≡ false → a ≡ true → b ≡ false
+and-none true b isnt is = isnt
+and-none false b isnt is = absurd (false≢true is)
+
+pub or-left : (a b : Bool) → (a || b) ≡ false → a ≡ false
+or-left true b neither = neither
+or-left false b neither = refl
+
+pub or-right : (a b : Bool) → (a || b) ≡ false → b ≡ false
+or-right true b neither = absurd (false≢true (sym neither))
+or-right false b neither = neither
+
 -- One test implies another
 
 abbrev pub Implies : Bool → Bool → Type 0

@@ -1,11 +1,12 @@
 -- Laws of ranges: what a passed test says.
 use Prim.Native.Nat.{ℕ, _≤_}
-use mathlib.Core.Bool.{Bool, true, false, false≢true, _&&_, and-true, and-assoc}
+use mathlib.Core.Bool.{Bool, true, _&&_, and-true, and-assoc}
 use mathlib.Core.List.{List, [], _∷_}
 use mathlib.Core.Path.{_≡_, _∙_, refl, sym}
 use native.Mathlib.Nat.{le-trans}
 use borrow.Author.Tests.{leb-true, le-leb}
 use lib.Dec.{leb}
+use Rattle.basis.proofs.Choice.{and-left, and-right}
 use Rattle.basis.specs.Range.{within, everyHolds, AllBelow}
 
 -- Every test of the list is true.
@@ -14,8 +15,7 @@ AllTrue [] = Unit {0}
 AllTrue (b ∷ bs) = (b ≡ true) × AllTrue bs
 
 pub and-parts : (a b : Bool) → (a && b) ≡ true → (a ≡ true) × (b ≡ true)
-and-parts true b both = (refl, both)
-and-parts false b both = absurd (false≢true both)
+and-parts a b both = (and-left a b both, and-right a b both)
 
 pub everyHolds-all : (bs : List Bool) → everyHolds bs ≡ true → AllTrue bs
 unfolding everyHolds

@@ -18,7 +18,7 @@ use Rattle.line.specs.Automaton.{State, start, lettered, inside, wrong, 
 use Rattle.line.specs.Reading.{answer, readLine}
 use Rattle.text.proofs.Decimal.{decimal-digit}
 use Rattle.line.proofs.Decimal.{decimal-snoc}
-use Rattle.line.proofs.Tests.{and-left, cond-cases}
+use Rattle.basis.proofs.Choice.{and-left, cond-cases}
 
 pub run-append : (l m : List ℕ) (s : State) → run (l ++ m) s ≡ run m (run l s)
 unfolding run
@@ -112,9 +112,9 @@ module _ (c : ℕ) (ns : List ℕ) where
             (next-digit c ns 0 0 x (omega arith) (λ none. omega arith) h ∙ ap (inside c ns 1) (omega arith));
       }
 
-  taken-last : (n x most : ℕ) → Taken c ns n most → most < 9 → 0 < n → n < 10 ^ 9 → x < 10 → Taken c ns (10 * n + x) (suc most)
+  taken-last : (n x most : ℕ) → Taken c ns n most → most < 9 → 0 < n → x < 10 → Taken c ns (10 * n + x) (suc most)
   unfolding run
-  taken-last n x most t room positive nine h =
+  taken-last n x most t room positive h =
       record {
         size = t .size + 1;
         some = omega arith;
@@ -127,14 +127,14 @@ module _ (c : ℕ) (ns : List ℕ) where
       }
 
   -- A number of at most nine digits is read as itself: its tenth is, and then its last digit.
-  pub decimal-taken : (most n : ℕ) → most < 9 → n < 10 ^ suc most → n < 10 ^ 9 → Taken c ns n (suc most)
-  decimal-taken zero n nine h below = taken-first n zero h
-  decimal-taken (suc most) n nine h below =
+  pub decimal-taken : (most n : ℕ) → most < 9 → n < 10 ^ suc most → Taken c ns n (suc most)
+  decimal-taken zero n nine h = taken-first n zero h
+  decimal-taken (suc most) n nine h =
       elim (decLt n 10) [
         | yes small ↦ taken-first n (suc most) small
         | no large ↦
             let parts : 10 * (n / 10) + n % 10 ≡ n = omega arith in
-            let tenth = decimal-taken most (n / 10) (omega arith) (omega (arith, pow-succ' 10 (suc most))) (omega arith) in
+            let tenth = decimal-taken most (n / 10) (omega arith) (omega (arith, pow-succ' 10 (suc most))) in
             subst (λ (m : ℕ). Taken c ns m (suc (suc most))) parts
-            (taken-last (n / 10) (n % 10) (suc most) tenth nine (omega arith) (omega arith) (omega arith))
+            (taken-last (n / 10) (n % 10) (suc most) tenth nine (omega arith) (omega arith))
       ]

@@ -24,7 +24,10 @@ reading-complete (Storey w) nine = answer-line 83 _ _ nine refl
 reading-complete (Cellar w) nine = answer-line 67 _ _ nine refl
 
 pub malformed-exactly : MalformedExactly
-malformed-exactly l = ((λ e w nine line. not-read w (sym e ∙ ap readLine line ∙ reading-complete w nine)), (λ none. unread (readLine l) refl none))
+malformed-exactly l = (
+  (λ e w nine line. not-read w (sym e ∙ ap readLine line ∙ reading-complete w nine)),
+  (λ none. unread (readLine l) refl none),
+)
   where
     unread : (r : Reading) → readLine l ≡ r → ((w : Wall) → NineDigits (numbersOf w) → l ≡ lineOf w → ⊥) → r ≡ Malformed
     unread (Read w) e none = let sound = reading-sound l w e in absurd (none w (sound .1) (sound .0))

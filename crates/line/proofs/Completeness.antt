@@ -17,10 +17,10 @@ answer-numbers : (c : ℕ) (ms ns : List ℕ) (m : ℕ) → NineDigits (m ∷ ms
     → answer (run (decimal m ++ fields ms) (inside c ns 0 0)) ≡ Read (wallOf c (ns ++ m ∷ ms))
 unfolding answer run fields
 answer-numbers c [] ns m nine e =
-    let t = decimal-taken c ns 8 m (omega arith) (nine .0) (nine .0) in
+    let t = decimal-taken c ns 8 m (omega arith) (nine .0) in
     rw (append-nil (decimal m), t .taken, lt-ltb 0 (t .size) (t .some), eq-eqb (length ns + 1) (countOf c) e)
 answer-numbers c (n ∷ ms) ns m nine e =
-    let t = decimal-taken c ns 8 m (omega arith) (nine .0) (nine .0) in
+    let t = decimal-taken c ns 8 m (omega arith) (nine .0) in
     ap answer (run-append (decimal m) (fields (n ∷ ms)) (inside c ns 0 0))
     ∙ ap (λ (s : State). answer (run (fields (n ∷ ms)) s)) (t .taken)
     ∙ ap (λ (s : State). answer (run (decimal n ++ fields ms) s)) (next-space c ns (t .size) m (t .some) (omega arith))

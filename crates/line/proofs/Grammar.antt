@@ -11,7 +11,7 @@ use borrow.Author.Tests.{eqb-true}
 use Rattle.text.specs.Decimal.{decimal}
 use Rattle.line.specs.Grammar.{fields, NineDigits, countOf, letterOf, numbersOf}
 use Rattle.line.specs.Reading.{wallOf}
-use Rattle.line.proofs.Tests.{cond-cases}
+use Rattle.basis.proofs.Choice.{cond-cases}
 
 pub fields-snoc : (ns : List ℕ) (n : ℕ) → fields (ns ++ n ∷ []) ≡ fields ns ++ 32 ∷ decimal n
 unfolding fields

@@ -1,5 +1,4 @@
--- Laws of tests (Tests), of the definitions (Decimal, Grammar, Automaton) and of the reader's loops (Steps); the claims and what they rest on.
-pub mod Tests
+-- Laws of the definitions (Decimal, Grammar, Automaton) and of the reader's loops (Steps); the claims and what they rest on.
 pub mod Decimal
 pub mod Grammar
 pub mod Automaton

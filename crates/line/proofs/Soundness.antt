@@ -16,7 +16,7 @@ use Rattle.text.specs.Decimal.{decimal}
 use Rattle.line.specs.Grammar.{fields, NineDigits, countOf, letterOf, numbersOf, lineOf}
 use Rattle.line.specs.Automaton.{State, start, lettered, inside, wrong, digitOf, next, run}
 use Rattle.line.specs.Reading.{wallOf, answer}
-use Rattle.line.proofs.Tests.{and-left, and-right, and-none, or-left, or-right, cond-cases}
+use Rattle.basis.proofs.Choice.{and-left, and-right, and-none, or-left, or-right, cond-cases}
 use Rattle.text.proofs.Decimal.{decimal-digit}
 use Rattle.line.proofs.Decimal.{decimal-snoc, value-grows, value-nine}
 use Rattle.line.proofs.Automaton.{byte-digit}

@@ -14,7 +14,7 @@ use Rattle.line.specs.declared.Reading.the-variants.{Read, Malformed}
 use Rattle.line.specs.Grammar.{countOf}
 use Rattle.line.specs.Automaton.{State, lettered, inside, wrong, digitOf, next, run}
 use Rattle.line.specs.Reading.{wallOf, answer, readLine}
-use Rattle.line.proofs.Tests.{and-right, or-left, or-right, cond-cases}
+use Rattle.basis.proofs.Choice.{and-right, or-left, or-right, cond-cases}
 use Rattle.line.proofs.Decimal.{value-grows, value-nine}
 use Rattle.line.proofs.Grammar.{count-most, wallOf-take}
 use Rattle.line.proofs.Automaton.{Continues, continues-start, continues-next, continues-wrong, run-end, next-letter}
@@ -37,6 +37,7 @@ pub record Inside (line : List ℕ) (letter : ℕ) (numbers : List ℕ) (k at di
   pub entered : at < length line + digits
   pub continues : Continues line at (inside letter (take k numbers) digits value)
 
+-- The value fits a machine word, and so does what a further digit makes of it.
 pub value-bound : {line : List ℕ} {letter : ℕ} {numbers : List ℕ} {k at digits value : ℕ} → Inside line letter numbers k at digits value
     → value < 10 ^ 9
 value-bound {digits = digits} {value = value} i = value-nine digits value (i .few) (i .small)
@@ -88,10 +89,12 @@ module _ {line : List ℕ} {letter wanted : ℕ} {numbers : List ℕ} {k from : 
   taken : length (take k numbers) ≡ k
   taken = length-take-le k numbers (omega arith)
 
+  -- The line ends where a number is wanted.
   pub missing : length line ≤ from → readLine line ≡ Malformed
   unfolding answer
   missing end = b .more wanting .reads ∙ ap answer (run-end line from (inside letter (take k numbers) 0 0) end)
 
+  -- No digit has been taken.
   pub begun : from < length line → Inside line letter numbers k from 0 0
   begun left =
       record {
@@ -103,6 +106,7 @@ module _ {line : List ℕ} {letter wanted : ℕ} {numbers : List ℕ} {k from : 
       }
 
   module _ {at digits value : ℕ} (i : Inside line letter numbers k at digits value) where
+    -- The array with the number put in its place.
     stored : take (k + 1) (set numbers k value) ≡ take k numbers ++ value ∷ []
     stored = rw add-one (take-suc-set numbers k value (omega arith))
 
@@ -114,6 +118,7 @@ module _ {line : List ℕ} {letter wanted : ℕ} {numbers : List ℕ} {k from : 
     next-inside x y e = rw (e, b .count, taken)
 
     module _ (left : at < length line) where
+      -- A space, with another number to come.
       pub number-ended : (eqb (getD line at 0) 32 && ltb 0 digits && ltb (k + 1) wanted) ≡ true
           → Between line letter wanted (set numbers k value) (k + 1) (at + 1)
       number-ended space =
@@ -130,6 +135,7 @@ module _ {line : List ℕ} {letter wanted : ℕ} {numbers : List ℕ} {k from : 
 
       module _ {x : ℕ} (e : x ≡ digitOf (getD line at 0))
           (other : (eqb (getD line at 0) 32 && ltb 0 digits && ltb (k + 1) wanted) ≡ false) where
+        -- Any other byte.
         pub digit-wrong : (ltb 9 x || eqb digits 9 || eqb digits 1 && eqb value 0) ≡ true → readLine line ≡ Malformed
         digit-wrong fault = continues-wrong (i .continues) left (next-inside (getD line at 0) x e ∙ rw (other, fault))
 
@@ -146,6 +152,7 @@ module _ {line : List ℕ} {letter wanted : ℕ} {numbers : List ℕ} {k from : 
               continues = continues-next (i .continues) left (next-inside (getD line at 0) x e ∙ rw (other, fine));
             }
 
+    -- The end of the line: every number has been read, or one is missing.
     pub line-ended : length line ≤ at → Between line letter wanted (set numbers k value) (k + 1) at
     unfolding answer
     line-ended end =
@@ -167,6 +174,7 @@ module _ {line : List ℕ} {letter wanted : ℕ} {numbers : List ℕ} {k from : 
               ∙ rw (lt-ltb 0 digits some, eq-eqb (length (take k numbers) + 1) (countOf letter) (omega (arith, taken)), stored);
         }
 
+-- Every number has been read.
 pub all-read : {line : List ℕ} {letter wanted : ℕ} {numbers : List ℕ} {k at : ℕ} → Between line letter wanted numbers k at → wanted ≤ k
     → readLine line ≡ Read (wallOf letter numbers)
 all-read {letter = letter} {numbers = numbers} {k = k} b h =

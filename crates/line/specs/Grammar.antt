@@ -29,8 +29,8 @@ letterOf (Cellar wall) = 67
 
 -- The numbers of a record, in document 01's order.
 abbrev pub numbersOf : Wall → List ℕ
-numbersOf (Storey w) = storey-record.numbers w
-numbersOf (Cellar w) = cellar-record.numbers w
+numbersOf (Storey wall) = storey-record.numbers wall
+numbersOf (Cellar wall) = cellar-record.numbers wall
 
 -- "A line ends where its bytes end."
 abbrev pub lineOf : Wall → List ℕ

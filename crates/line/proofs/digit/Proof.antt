@@ -2,7 +2,7 @@
 use borrow.Author.Needs.{needs}
 use borrow.Author.Tests.{leb-true}
 use Rattle.line.specs.Automaton.{digitOf}
-use Rattle.line.proofs.Tests.{and-left}
+use Rattle.basis.proofs.Choice.{and-left}
 use Rattle.line.proofs.digit.Statement.{statement}
 use Rattle.line.proofs.digit.Tie as tie
 

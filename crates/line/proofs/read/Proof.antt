@@ -9,8 +9,24 @@ use borrow.Author.Tests.{ltb-true, ltb-false, lt-ltb, not-true, not-false}
 use lib.ListN.{length}
 use Rattle.line.specs.declared.Reading.the-variants.{Read}
 use Rattle.line.specs.Grammar.{countOf}
-use Rattle.line.proofs.Tests.{and-left, and-right, or-left}
-use Rattle.line.proofs.Steps.{Between, Inside, value-bound, short-line, letter-wrong, space-wrong, opened, index, missing, begun, number-ended, digit-taken, digit-wrong, line-ended, all-read}
+use Rattle.basis.proofs.Choice.{and-left, and-right, or-left}
+use Rattle.line.proofs.Steps.{
+  Between,
+  Inside,
+  value-bound,
+  short-line,
+  letter-wrong,
+  space-wrong,
+  opened,
+  index,
+  missing,
+  begun,
+  number-ended,
+  digit-taken,
+  digit-wrong,
+  line-ended,
+  all-read,
+}
 use Rattle.line.proofs.read.Statement.{statement}
 use Rattle.line.proofs.read.Tie as tie
 
