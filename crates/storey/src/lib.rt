@@ -10,7 +10,7 @@ ghost use Rattle.storey.specs.Range.{inRange};
 ghost use Rattle.storey.specs.BucklingLength.{bearingSuffices, factor, threeSides, fourSides, CurvedInputs, LengthInputs, bucklingLength};
 ghost use Rattle.storey.specs.Resistance.{atMidHeight, supportFactor, atSupport, reduction, resistance, MidHeightInputs, SupportInputs, Fifths, SupportFactor};
 ghost use Rattle.storey.specs.Load.{load};
-ghost use Rattle.storey.specs.Limits.{tooThin, areaTooSmall, closelyHeld, unfitForUse, tooHigh, floorLoadTooGreat, buildingTooHigh, spanTooLong, bearingTooShallow, tooWeak, tooSlender, limits};
+ghost use Rattle.storey.specs.Limits.{unfitForUse, tooHigh, floorLoadTooGreat, bearingTooShallow, limits};
 ghost use Rattle.storey.specs.Check.{check, Located, Measured};
 use basis::CheckResult;
 
@@ -387,36 +387,19 @@ impl StoreyWall {
 
     const GREATEST_SLENDERNESS: u64 = 270;
 
-    fn too_thin(self) -> bool
-        ensures { λ applies. ⌜ applies ≡ tooThin self ⌝ }
-    {
-        self.thickness < StoreyWall::LEAST_THICKNESS
-    }
-
-    fn area_too_small(self) -> bool
-        requires { ⌜ inRange self ≡ true ⌝ }
-        ensures { λ applies. ⌜ applies ≡ areaTooSmall self ⌝ }
-    {
-        self.length * self.thickness < StoreyWall::LEAST_AREA
-    }
-
-    fn closely_held(self) -> bool
-        ensures { λ close. ⌜ close ≡ closelyHeld self ⌝ }
-    {
-        ((self.held == StoreyWall::FOUR_SIDES) & (self.distance <= StoreyWall::CLOSE_SPACING))
-            | ((self.held == StoreyWall::THREE_SIDES) & (self.distance <= StoreyWall::CLOSE_EDGE))
-    }
-
     fn unfit_for_use(self) -> bool
         ensures { λ applies. ⌜ applies ≡ unfitForUse self ⌝ }
     {
         let thin = self.thickness < StoreyWall::LEAST_OUTER_THICKNESS;
+        let closely_held = ((self.held == StoreyWall::FOUR_SIDES)
+            & (self.distance <= StoreyWall::CLOSE_SPACING))
+            | ((self.held == StoreyWall::THREE_SIDES) & (self.distance <= StoreyWall::CLOSE_EDGE));
         ((self.usage == StoreyWall::OUTER_USE) & thin)
             | ((self.usage == StoreyWall::GARAGE_USE)
                 & (StoreyWall::GREATEST_GARAGE_STOREYS < self.storeys))
             | ((self.usage == StoreyWall::BEARING_LEAF_USE)
                 & thin
-                & ((StoreyWall::GREATEST_THIN_LEAF_STOREYS < self.storeys) | !self.closely_held()))
+                & ((StoreyWall::GREATEST_THIN_LEAF_STOREYS < self.storeys) | !closely_held))
     }
 
     fn too_high(self) -> bool
@@ -438,19 +421,6 @@ impl StoreyWall {
                 & (self.thickness < StoreyWall::THIN_UNDER_IMPOSED))
     }
 
-    fn building_too_high(self) -> bool
-        ensures { λ applies. ⌜ applies ≡ buildingTooHigh self ⌝ }
-    {
-        StoreyWall::GREATEST_BUILDING_HEIGHT < self.building
-    }
-
-    fn span_too_long(self) -> bool
-        ensures { λ applies. ⌜ applies ≡ spanTooLong self ⌝ }
-    {
-        (StoreyWall::GREATEST_UNCENTRED_SPAN < self.span)
-            & (self.support != StoreyWall::CENTRED_SUPPORT)
-    }
-
     fn bearing_too_shallow(self) -> bool
         requires { ⌜ inRange self ≡ true ⌝ }
         ensures { λ applies. ⌜ applies ≡ bearingTooShallow self ⌝ }
@@ -460,19 +430,6 @@ impl StoreyWall {
                 & (20 * self.bearing < 9 * self.thickness))
             | ((self.thickness != StoreyWall::SPECIAL_THICKNESS)
                 & (2 * self.bearing < self.thickness))
-    }
-
-    fn too_weak(self) -> bool
-        ensures { λ applies. ⌜ applies ≡ tooWeak self ⌝ }
-    {
-        self.strength < StoreyWall::LEAST_STRENGTH
-    }
-
-    fn too_slender(self, length: u64) -> bool
-        requires { ⌜ Located self length ⌝ }
-        ensures { λ applies. ⌜ applies ≡ tooSlender self ⌝ }
-    {
-        StoreyWall::GREATEST_SLENDERNESS * self.thickness < length
     }
 
     // The number of the first of refusals 3 to 12 whose test holds, or 0.
@@ -528,17 +485,23 @@ impl StoreyWall {
         requires { ⌜ Located self length ⌝ }
         ensures { λ number. ⌜ number ≡ firstOf (limits self) ⌝ }
     {
+        let thickness = self.thickness;
+        let area = self.length * thickness;
+        let building = self.building;
+        let span = self.span;
+        let support = self.support;
+        let strength = self.strength;
         StoreyWall::first_limit(
-            self.too_thin(),
-            self.area_too_small(),
+            thickness < StoreyWall::LEAST_THICKNESS,
+            area < StoreyWall::LEAST_AREA,
             self.unfit_for_use(),
             self.too_high(),
             self.floor_load_too_great(),
-            self.building_too_high(),
-            self.span_too_long(),
+            StoreyWall::GREATEST_BUILDING_HEIGHT < building,
+            (StoreyWall::GREATEST_UNCENTRED_SPAN < span) & (support != StoreyWall::CENTRED_SUPPORT),
             self.bearing_too_shallow(),
-            self.too_weak(),
-            self.too_slender(length),
+            strength < StoreyWall::LEAST_STRENGTH,
+            StoreyWall::GREATEST_SLENDERNESS * thickness < length,
         )
     }
 }
