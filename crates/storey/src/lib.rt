@@ -381,7 +381,14 @@ impl StoreyWall {
 
     const SHALLOW_BEARING: u64 = 100;
 
+    // At least half the thickness; at SPECIAL_THICKNESS at least 9/20 of it.
+    const BEARING_PARTS: u64 = 2;
+
     const SPECIAL_THICKNESS: u64 = 365;
+
+    const SPECIAL_BEARING_PARTS: u64 = 20;
+
+    const SPECIAL_THICKNESS_PARTS: u64 = 9;
 
     const LEAST_STRENGTH: u64 = 180;
 
@@ -427,9 +434,10 @@ impl StoreyWall {
     {
         (self.bearing <= StoreyWall::SHALLOW_BEARING)
             | ((self.thickness == StoreyWall::SPECIAL_THICKNESS)
-                & (20 * self.bearing < 9 * self.thickness))
+                & (StoreyWall::SPECIAL_BEARING_PARTS * self.bearing
+                    < StoreyWall::SPECIAL_THICKNESS_PARTS * self.thickness))
             | ((self.thickness != StoreyWall::SPECIAL_THICKNESS)
-                & (2 * self.bearing < self.thickness))
+                & (StoreyWall::BEARING_PARTS * self.bearing < self.thickness))
     }
 
     // The number of the first of refusals 3 to 12 whose test holds, or 0.

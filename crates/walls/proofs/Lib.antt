@@ -3,3 +3,4 @@ pub mod Comparison
 pub mod Computes
 pub mod MarkedFigures
 pub mod FalseReadings
+pub mod OutOfRange

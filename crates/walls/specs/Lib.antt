@@ -4,3 +4,4 @@ pub mod Comparison
 pub mod Examples
 pub mod MarkedFigures
 pub mod FalseReadings
+pub mod OutOfRange

@@ -1,0 +1,22 @@
+-- 2: "a number out of range", for any numbers at all, also those that no line can hold.
+use Prim.Native.Nat.{ℕ, _-_, _^_}
+use mathlib.Core.Bool.{false}
+use mathlib.Core.Path.{_≡_}
+use Rattle.basis.specs.Result.{refusedWith}
+use Rattle.storey.specs.Record.{storeyRecord}
+use Rattle.cellar.specs.Record.{cellarRecord}
+use Rattle.walls.specs.declared.Wall.{Wall}
+use Rattle.walls.specs.declared.Wall.the-variants.{Storey, Cellar}
+use Rattle.walls.specs.Check.{inRange, check}
+
+abbrev pub OutOfRangeRefused : Type 0
+OutOfRangeRefused = (wall : Wall) → inRange wall ≡ false → check wall ≡ refusedWith 2
+
+-- The greatest number of a machine word in every field.
+abbrev pub most : ℕ
+most = 2 ^ 64 - 1
+
+abbrev pub GreatestRefused : Type 0
+GreatestRefused =
+    (check (Storey (storeyRecord most most most most most most most most most most most most most most most most)) ≡ refusedWith 2)
+    × (check (Cellar (cellarRecord most most most most most most most most most most)) ≡ refusedWith 2)
