@@ -6,7 +6,7 @@ use mathlib.Core.Logic.{_↔_}
 use mathlib.Core.Path.{_≡_, _∙_, refl, sym, ap}
 use native.Mathlib.Decide.{ℕ-discrete}
 use borrow.Author.Tests.{not-false, ne-eqb}
-use lib.Dec.{T, eqb}
+use lib.Dec.{T, eqb, ltb, ltb→lt, lt→ltb}
 use Rattle.basis.specs.declared.CheckResult.{CheckResult}
 use Rattle.basis.specs.Refusal.{firstOf, inOrder, NoneApplies}
 use Rattle.basis.specs.Result.{refusedWith, filledWith, fillsAll, resultOf, Accepted, Below, SpareSigned}
@@ -82,6 +82,18 @@ module _ (inRange : Bool) (limits measures : List (ℕ × Bool)) where
       go true passed (yes none) = (passed, none-firstOf limits positive none)
       go true passed (no beyond) =
           absurd (false≢true (sym (limit-unfilled unfilled beyond) ∙ sym (ap fillsAll (refusal-limit passed beyond)) ∙ filled))
+
+  -- Every number of the result is below a bound that the refusals keep, and that the other numbers keep within the ranges and every limit.
+  pub result-bounded : (bound second N R : ℕ) → 0 < bound → T (everyNumber (λ n. ltb n bound) (inOrder inRange limits measures)) →
+      T (numbered limits) → T (everyNumber (λ n. eqb n 0 || not (fillsAll n)) limits) →
+      (inRange ≡ true → NoneApplies limits → (second < bound) × (N < bound) × (R < bound)) →
+      Below bound (resultOf (firstOf (inOrder inRange limits measures)) second N R)
+  result-bounded bound second N R positive small numbers unfilled within =
+      let order = inOrder inRange limits measures in
+      result-below bound (firstOf order) second N R (ltb→lt (firstOf order) bound (firstOf-every (λ n. ltb n bound) order (lt→ltb 0 bound positive) small))
+      (λ filled.
+      let reached = filled-only numbers unfilled filled in
+      within (reached .0) (reached .1))
 
   -- Accepted exactly when the record is in range and none of the refusals applies.
   pub accepted-exactly : T (numbered limits) → T (numbered measures) →

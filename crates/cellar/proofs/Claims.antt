@@ -2,12 +2,9 @@
 use mathlib.Core.Path.{_≡_, _∙_, sym}
 use native.Mathlib.Omega.{arith}
 use borrow.Author.Tests.{ltb-false, le-ltb}
-use lib.Dec.{ltb, ltb→lt}
 use Rattle.basis.specs.Load.{exactLoad, designLoad}
-use Rattle.basis.specs.Refusal.{firstOf, inOrder}
-use Rattle.basis.proofs.Check.{result-refusal, result-spare, result-below, result-measured, filled-only, accepted-exactly}
+use Rattle.basis.proofs.Check.{result-refusal, result-spare, result-bounded, result-measured, accepted-exactly}
 use Rattle.basis.proofs.Fraction.{ceil-rounds-up, floor-rounds-down}
-use Rattle.basis.proofs.Refusal.{firstOf-every}
 use Rattle.cellar.specs.declared.CellarWall.{CellarWall}
 use Rattle.cellar.specs.Range.{inRange}
 use Rattle.cellar.specs.RequiredLoad.{exactRequiredLoad, requiredLoad}
@@ -61,12 +58,8 @@ spare-is-signed w = result-spare (refusal w) (requiredLoad w) (load w) (resistan
 pub result-is-bounded : ResultIsBounded
 unfolding check refusal
 result-is-bounded w =
-    let order = inOrder (inRange w) (limits w) (measures w) in
-    result-below 1000000000 (refusal w) (requiredLoad w) (load w) (resistance w)
-    (ltb→lt (refusal w) 1000000000 (firstOf-every (λ n. ltb n 1000000000) order tt tt))
-    (λ filled.
-    let reached = filled-only (inRange w) (limits w) (measures w) tt tt filled in
-    let most-required = required-load-most w (record { in-range = reached .0; within-limits = reached .1 }) in
-    let most-load = load-most w (reached .0) in
-    let most-resistance = resistance-most w (reached .0) in
-    (omega arith, omega arith, omega arith))
+    result-bounded (inRange w) (limits w) (measures w) 1000000000 (requiredLoad w) (load w) (resistance w) (omega arith) tt tt tt
+    (λ passed none.
+    (omega (arith, required-load-most w (record { in-range = passed; within-limits = none })),
+    omega (arith, load-most w passed),
+    omega (arith, resistance-most w passed)))
