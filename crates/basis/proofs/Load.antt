@@ -1,5 +1,5 @@
 -- Laws of the design load.
-use Prim.Native.Nat.{ℕ, _≤_, _<_}
+use Prim.Native.Nat.{ℕ, _≤_}
 use native.Mathlib.Omega.{arith}
 use Rattle.basis.specs.Load.{exactLoad, designLoad}
 use Rattle.basis.proofs.Fraction.{ceil-mono, ceil-least}

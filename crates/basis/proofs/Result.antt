@@ -9,7 +9,6 @@ use borrow.Author.Tests.{lt-ltb, le-ltb}
 use lib.Dec.{le→leb}
 use lib.IntN.{ℤ, pos, negsuc, _-ℤ_, natAbs}
 use lib.Signed.{mag, _≤ℤ_}
-use Rattle.basis.specs.declared.CheckResult.{CheckResult}
 use Rattle.basis.specs.Result.{refusedWith, filledWith, Below, SpareSigned}
 
 pub difference-covered : (R N : ℕ) → N ≤ R → pos R -ℤ pos N ≡ pos (R - N)

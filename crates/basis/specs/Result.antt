@@ -4,7 +4,7 @@ use mathlib.Core.Bool.{Bool, cond, _||_}
 use mathlib.Core.Logic.{_↔_}
 use mathlib.Core.Path.{_≡_}
 use lib.Dec.{eqb}
-use lib.IntN.{ℤ, pos, _-ℤ_, natAbs}
+use lib.IntN.{pos, _-ℤ_, natAbs}
 use lib.Signed.{_≤ℤ_}
 use Rattle.basis.specs.declared.CheckResult.{CheckResult}
 

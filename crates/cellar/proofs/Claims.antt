@@ -59,7 +59,8 @@ pub result-is-bounded : ResultIsBounded
 unfolding check refusal
 result-is-bounded w =
     result-bounded (inRange w) (limits w) (measures w) 1000000000 (requiredLoad w) (load w) (resistance w) (omega arith) tt tt tt
-    (λ passed none.
-    (omega (arith, required-load-most w (record { in-range = passed; within-limits = none })),
-    omega (arith, load-most w passed),
-    omega (arith, resistance-most w passed)))
+    (λ passed none. (
+      omega (arith, required-load-most w (record { in-range = passed; within-limits = none })),
+      omega (arith, load-most w passed),
+      omega (arith, resistance-most w passed),
+    ))

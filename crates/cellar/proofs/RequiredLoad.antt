@@ -1,13 +1,13 @@
 -- Laws of the required load: its products fit, the code's quotients are the definition's, and its bound.
 use Prim.Native.Nat.{ℕ, _-_, _*_, _≤_, _<_}
-use mathlib.Core.Bool.{true, false}
-use mathlib.Core.Path.{_≡_, sym}
+use mathlib.Core.Bool.{true}
+use mathlib.Core.Path.{_≡_}
 use native.Mathlib.Omega.{arith}
 use native.Mathlib.Nat.{mul-le-mul, mul-le-mul-right, mul-pos, mul-one, one-mul, lt-of-not-le}
 use native.Mathlib.Decide.{decLe}
 use borrow.Author.Tests.{le-leb, lt-leb, leb-false}
 use lib.Dec.{leb}
-use Rattle.basis.specs.Fraction.{Fraction, _÷_, whole, _≼_, times, over, minus, ceil}
+use Rattle.basis.specs.Fraction.{Fraction, _÷_, whole, times, over, minus, ceil}
 use Rattle.basis.proofs.Choice.{cond-cases}
 use Rattle.basis.proofs.Fraction.{ceil-equal, ceil-least}
 use Rattle.cellar.specs.declared.CellarWall.{CellarWall}

@@ -5,7 +5,7 @@ use mathlib.Core.Path.{_≡_}
 use native.Mathlib.Omega.{arith}
 use native.Mathlib.Nat.{mul-le-mul}
 use lib.Dec.{eqb}
-use Rattle.basis.specs.Fraction.{Fraction, _÷_, whole, _≼_, times, floor}
+use Rattle.basis.specs.Fraction.{Fraction, _÷_, whole, _≼_, times}
 use Rattle.basis.proofs.Choice.{cond-cases}
 use Rattle.basis.proofs.Fraction.{times-den, times-mono, floor-most}
 use Rattle.cellar.specs.declared.CellarWall.{CellarWall}

@@ -1,5 +1,5 @@
 -- Document 01, "Cellar wall": the need, the dead load that the wall requires against the fill.
-use Prim.Native.Nat.{ℕ, _*_, _≤_}
+use Prim.Native.Nat.{ℕ, _*_}
 use mathlib.Core.Bool.{cond}
 use lib.Dec.{leb}
 use Rattle.basis.specs.Fraction.{Fraction, _÷_, whole, times, over, minus, ceil}

@@ -1,5 +1,5 @@
 -- Laws of the digits of a number as they are read: one digit more, and their value.
-use Prim.Native.Nat.{ℕ, suc, _+_, _*_, _/_, _%_, _^_, _≤_, _<_}
+use Prim.Native.Nat.{ℕ, _+_, _*_, _/_, _%_, _^_, _≤_, _<_}
 use mathlib.Core.Path.{_≡_, _∙_}
 use mathlib.Core.List.{[], _∷_, _++_}
 use native.Mathlib.Omega.{arith}

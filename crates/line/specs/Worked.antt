@@ -1,5 +1,4 @@
 -- Lines of document 01, lines near to them, and what each is read as.
-use Prim.Native.Nat.{ℕ}
 use Prim.Native.String.{String}
 use mathlib.Core.Path.{_≡_}
 use mathlib.Core.List.{List, [], _∷_, map}

@@ -6,13 +6,13 @@ use native.Mathlib.Omega.{arith}
 use native.Mathlib.Nat.{mul-le-mul, mul-pos}
 use borrow.Author.Tests.{eqb-true}
 use lib.Dec.{leb, eqb}
-use Rattle.basis.specs.Fraction.{Fraction, _÷_, whole, _≼_, larger, ceil}
+use Rattle.basis.specs.Fraction.{Fraction, _÷_, whole, ceil}
 use Rattle.basis.proofs.Choice.{cond-cases}
 use Rattle.basis.proofs.Fraction.{ceil-larger, ceil-whole, larger-den}
 use Rattle.basis.proofs.Range.{and-parts}
 use Rattle.storey.specs.declared.StoreyWall.{StoreyWall}
 use Rattle.storey.specs.Range.{inRange}
-use Rattle.storey.specs.BucklingLength.{bearingSuffices, factor, twoSides, threeSides, fourSides, lengthOf, CurvedInputs, LengthInputs, exactLength, bucklingLength}
+use Rattle.storey.specs.BucklingLength.{bearingSuffices, factor, twoSides, threeSides, fourSides, lengthOf, CurvedInputs, LengthInputs, exactLength}
 use Rattle.storey.proofs.Range.{range-bounds, distance-bounds}
 
 -- Products

@@ -6,9 +6,9 @@ use mathlib.Core.Path.{_≡_, _∙_, refl, sym, ap, ap₂, subst}
 use native.Mathlib.Omega.{arith}
 use native.Mathlib.Decide.{decLe}
 use native.Mathlib.Nat.{mul-le-mul, mul-le-mul-left, mul-le-mul-right, add-sub-of-le, lt-of-not-le, le-refl, le-of-lt, le-trans}
-use borrow.Author.Tests.{leb-true, leb-false, le-leb, eqb-true, eqb-false, eq-eqb}
+use borrow.Author.Tests.{leb-true, leb-false, le-leb, eqb-true, eq-eqb}
 use lib.Dec.{leb, ltb, eqb}
-use Rattle.basis.specs.Fraction.{Fraction, _÷_, whole, _≼_, times, minus, smaller, larger}
+use Rattle.basis.specs.Fraction.{Fraction, _÷_, whole, _≼_, times, minus}
 use Rattle.basis.specs.Refusal.{NoneApplies}
 use Rattle.basis.proofs.Choice.{cond-pair, cond-same, Implies, implies-false, implies-and, implies-or, above-grows, below-falls}
 use Rattle.basis.proofs.Fraction.{≼-refl, larger-mono, times-mono, minus-mono, minus-den, smaller-mono, ceil-mono, floor-mono}

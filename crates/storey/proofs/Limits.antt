@@ -1,5 +1,5 @@
 -- Laws of the limits: what a record within every limit has.
-use Prim.Native.Nat.{ℕ, _*_, _≤_}
+use Prim.Native.Nat.{_*_, _≤_}
 use mathlib.Core.Bool.{true}
 use mathlib.Core.Path.{_≡_}
 use native.Mathlib.Omega.{arith}

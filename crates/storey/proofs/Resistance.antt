@@ -1,5 +1,5 @@
 -- Laws of the resistance: that its products fit, that the code's quotients are the definition's, and how it follows the record.
-use Prim.Native.Nat.{ℕ, _+_, _-_, _*_, _/_, _≤_, _<_, min}
+use Prim.Native.Nat.{ℕ, _-_, _*_, _/_, _≤_, _<_, min}
 use mathlib.Core.Bool.{true, false, _||_}
 use mathlib.Core.Path.{_≡_, _∙_, refl, sym, ap, ap₂}
 use native.Mathlib.Omega.{arith}

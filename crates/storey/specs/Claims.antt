@@ -1,5 +1,5 @@
 -- Demand 2 for a storey wall, as claims about the definitions; their proofs stand in proofs/Claims.antt.
-use Prim.Native.Nat.{ℕ, _≤_}
+use Prim.Native.Nat.{_≤_}
 use mathlib.Core.Bool.{true}
 use mathlib.Core.Logic.{_↔_}
 use mathlib.Core.Path.{_≡_}

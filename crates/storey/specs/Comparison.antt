@@ -1,5 +1,5 @@
 -- Document 01, "Comparison of records": which storey record is no worse than another.
-use Prim.Native.Nat.{ℕ, _*_, _≤_, _<_}
+use Prim.Native.Nat.{_*_, _≤_, _<_}
 use mathlib.Core.Path.{_≡_}
 use Rattle.storey.specs.declared.StoreyWall.{StoreyWall}
 

@@ -1,17 +1,16 @@
 -- Demands 1, 2 and 3 for the public entries: each by citing what was proved below.
-use Prim.Native.Nat.{ℕ, _+_, _≤_, _<_, _^_}
+use Prim.Native.Nat.{ℕ, _≤_, _^_}
 use mathlib.Core.Bool.{Bool, true, false, true≢false, not}
 use mathlib.Core.List.{List, _++_}
 use mathlib.Core.Path.{_≡_, _∙_, refl, sym, ap}
 use native.Mathlib.Omega.{arith}
-use native.Mathlib.Nat.{le-trans}
 use borrow.Author.Tests.{lt-ltb, le-ltb}
-use lib.Dec.{T, eqb}
+use lib.Dec.{eqb}
 use lib.ListN.{length, drop, length-append, length-drop}
 use Rattle.basis.specs.declared.CheckResult.{CheckResult}
 use Rattle.basis.specs.Range.{AllBelow}
-use Rattle.basis.specs.Refusal.{firstOf, inOrder, NoneApplies}
-use Rattle.basis.specs.Result.{refusedWith, Below, Accepted}
+use Rattle.basis.specs.Refusal.{inOrder, NoneApplies}
+use Rattle.basis.specs.Result.{refusedWith, Below}
 use Rattle.basis.proofs.Choice.{not-T-false}
 use Rattle.basis.proofs.Range.{AllBelow-mono}
 use Rattle.basis.proofs.Refusal.{firstOf-every}
@@ -36,7 +35,7 @@ use Rattle.walls.specs.Check.{inRange, check}
 use Rattle.walls.proofs.Comparison.{storey-comparison, cellar-comparison}
 use Rattle.line.specs.declared.Reading.{Reading}
 use Rattle.line.specs.declared.Reading.the-variants.{Read, Malformed}
-use Rattle.line.specs.Grammar.{NineDigits, numbersOf, lineOf}
+use Rattle.line.specs.Grammar.{lineOf}
 use Rattle.line.specs.Reading.{readLine, readingResult}
 use Rattle.line.proofs.Claims.{reading-complete, malformed-exactly}
 use Rattle.worksheet.specs.declared.Row.{Row}

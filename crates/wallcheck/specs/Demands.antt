@@ -13,12 +13,12 @@ use Rattle.basis.specs.Result.{refusedWith, Accepted, SpareSigned}
 use Rattle.storey.specs.declared.StoreyWall.{StoreyWall}
 use Rattle.storey.specs.Record.{numbers}
 use Rattle.storey.specs.Range as storey-range
-use Rattle.storey.specs.BucklingLength.{exactLength, bucklingLength}
+use Rattle.storey.specs.BucklingLength.{exactLength}
 use Rattle.storey.specs.Resistance as storey-resistance
 use Rattle.storey.specs.Limits as storey-limits
 use Rattle.storey.specs.Comparison.{NoWorse}
 use Rattle.cellar.specs.declared.CellarWall.{CellarWall}
-use Rattle.cellar.specs.RequiredLoad.{exactRequiredLoad, requiredLoad}
+use Rattle.cellar.specs.RequiredLoad.{exactRequiredLoad}
 use Rattle.cellar.specs.Resistance as cellar-resistance
 use Rattle.cellar.specs.Limits as cellar-limits
 use Rattle.cellar.specs.Comparison.{Between}
@@ -30,7 +30,7 @@ use Rattle.worksheet.specs.declared.Row.{Row}
 use Rattle.worksheet.specs.Row.{SameNumbers}
 use Rattle.report.specs.Text.{resultText}
 use Rattle.report.specs.Reading.{readResult}
-use Rattle.wallcheck.specs.Entry.{lineResult, rowResult, Lent, lent}
+use Rattle.wallcheck.specs.Entry.{lineResult, rowResult, lent}
 
 -- Demand 1: "Any line, worksheet row or output buffer of any content: .. a full result or the one refusal that document 01's order names."
 

@@ -1,5 +1,5 @@
 -- Document 01, "Plausible readings that are false": each reading as a statement about the definitions. Each is refuted in proofs/FalseReadings.antt.
-use Prim.Native.Nat.{ℕ, _+_, _*_, _/_, _≤_, _<_}
+use Prim.Native.Nat.{ℕ, _+_, _*_, _/_, _≤_}
 use mathlib.Core.Bool.{true}
 use mathlib.Core.Path.{_≡_}
 use Rattle.basis.specs.Fraction.{Fraction, whole, times, floor}

@@ -1,5 +1,4 @@
 -- `basis::ceil_div` meets its contract: by quotient and remainder.
-use Prim.Native.Nat.{_<_}
 use mathlib.Core.Path.{sym}
 use native.Mathlib.Omega.{arith}
 use native.Mathlib.Nat.{div-zero, pos-of-ne-zero}

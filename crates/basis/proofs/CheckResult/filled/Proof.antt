@@ -1,11 +1,11 @@
 -- `CheckResult::filled` meets its contract: numbers below 2^32 are their own signed values, and so is their difference.
 use Prim.Native.Nat.{ℕ, _<_, _^_}
-use mathlib.Core.Path.{_≡_, ap}
+use mathlib.Core.Path.{_≡_}
 use native.Mathlib.Omega.{arith}
 use borrow.Author.Needs.{needs, sfits-of}
 use lib.IntN.{pos, _-ℤ_}
 use mir.Syntax.{w64}
-use mir.Val.{toZ, ofZ, SFits, Fits}
+use mir.Val.{toZ, ofZ, SFits}
 use mir.ValLaws.{toZ-pos, toZ-ofZ}
 use Rattle.basis.proofs.Result.{difference-mag}
 use Rattle.basis.proofs.CheckResult.filled.Statement.{statement}

@@ -1,9 +1,7 @@
 -- `StoreyWall::measured` meets its contract: the five numbers are the definition's.
 use borrow.Author.Needs.{needs}
 use native.Mathlib.Omega.{arith}
-use mathlib.Core.Path.{_∙_, ap₂}
-use lib.Dec.{ltb}
-use Rattle.basis.specs.Refusal.{firstOf}
+use mathlib.Core.Path.{_∙_}
 use Rattle.storey.proofs.Load.{load-most}
 use Rattle.storey.proofs.Resistance.{resistance-most}
 use Rattle.storey.proofs.Check.{check-measured}
