@@ -11,7 +11,18 @@ use Rattle.basis.specs.declared.CheckResult.{CheckResult}
 use Rattle.basis.specs.Refusal.{firstOf, inOrder, NoneApplies}
 use Rattle.basis.specs.Result.{refusedWith, filledWith, fillsAll, resultOf, Below, SpareSigned}
 use Rattle.basis.proofs.Choice.{cond-cases, T-true, not-T-false, or-other}
-use Rattle.basis.proofs.Refusal.{everyNumber, numbered, numbered-append, firstOf-none, none-firstOf, firstOf-first, firstOf-second, firstOf-every, NoneApplies-append, NoneApplies-split}
+use Rattle.basis.proofs.Refusal.{
+  everyNumber,
+  numbered,
+  numbered-append,
+  firstOf-none,
+  none-firstOf,
+  firstOf-first,
+  firstOf-second,
+  firstOf-every,
+  NoneApplies-append,
+  NoneApplies-split,
+}
 use Rattle.basis.proofs.Result.{filled-spare, refused-spare, filled-below, refused-below}
 
 -- Every result, filled or not, reports its refusal and the signed spare.

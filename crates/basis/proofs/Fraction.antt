@@ -3,7 +3,27 @@
 use Prim.Native.Nat.{ℕ, _+_, _-_, _*_, _/_, _%_, _≤_, _<_, min, max}
 use mathlib.Core.Path.{_≡_, _∙_, sym, ap₂}
 use native.Mathlib.Omega.{arith}
-use native.Mathlib.Nat.{mul-le-mul, mul-le-mul-right, le-of-mul-le-mul-right, lt-of-mul-lt-mul-right, div-mul-le-self, lt-div-mul-add, le-div-iff-mul-le, div-lt-iff-lt-mul, le-antisymm, mul-pos, le-of-lt, mul-comm, mul-sub, le-mul-of-pos-right, div-add-mod', min-eq-left, min-eq-right, max-eq-left, max-eq-right}
+use native.Mathlib.Nat.{
+  mul-le-mul,
+  mul-le-mul-right,
+  le-of-mul-le-mul-right,
+  lt-of-mul-lt-mul-right,
+  div-mul-le-self,
+  lt-div-mul-add,
+  le-div-iff-mul-le,
+  div-lt-iff-lt-mul,
+  le-antisymm,
+  mul-pos,
+  le-of-lt,
+  mul-comm,
+  mul-sub,
+  le-mul-of-pos-right,
+  div-add-mod',
+  min-eq-left,
+  min-eq-right,
+  max-eq-left,
+  max-eq-right,
+}
 use borrow.Author.Tests.{leb-true, leb-false}
 use lib.Dec.{leb}
 use Rattle.basis.specs.Fraction.{Fraction, _÷_, whole, _≼_, _≺_, _≈_, times, minus, smaller, larger, floor, ceil, LeastAtOrAbove, LessThanOneBelow}

@@ -19,7 +19,20 @@ use Rattle.storey.specs.Range.{inRange}
 use Rattle.storey.specs.BucklingLength.{bearingSuffices, factor, twoSides, threeSides, fourSides, lengthOf, exactLength, bucklingLength}
 use Rattle.storey.specs.Resistance.{atMidHeight, supportFactor, atSupport, reduction, unreduced, exactResistance, resistance}
 use Rattle.storey.specs.Load.{load}
-use Rattle.storey.specs.Limits.{limits, tooThin, areaTooSmall, closelyHeld, unfitForUse, tooHigh, floorLoadTooGreat, buildingTooHigh, spanTooLong, bearingTooShallow, tooWeak, tooSlender}
+use Rattle.storey.specs.Limits.{
+  limits,
+  tooThin,
+  areaTooSmall,
+  closelyHeld,
+  unfitForUse,
+  tooHigh,
+  floorLoadTooGreat,
+  buildingTooHigh,
+  spanTooLong,
+  bearingTooShallow,
+  tooWeak,
+  tooSlender,
+}
 use Rattle.storey.specs.Comparison.{NoWorse}
 use Rattle.storey.proofs.Range.{range-bounds, distance-bounds}
 use Rattle.storey.proofs.BucklingLength.{thickness-factor-most, factor-most, sum-of-squares, held-further, exact-length-den}

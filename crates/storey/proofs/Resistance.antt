@@ -7,12 +7,38 @@ use native.Mathlib.Nat.{mul-le-mul, mul-le-mul-right, mul-one, sub-eq-zero-of-le
 use lib.Dec.{eqb, ltb}
 use Rattle.basis.specs.Fraction.{Fraction, _÷_, whole, _≼_, _≈_, times, minus, smaller, floor}
 use Rattle.basis.proofs.Choice.{cond-cases}
-use Rattle.basis.proofs.Fraction.{≼-refl, ≼-trans, times-mono, minus-below, smaller-left, floor-most, smaller-cases, smaller-den, times-den, times-same, floor-equal, floor-times-smaller, minus-den}
+use Rattle.basis.proofs.Fraction.{
+  ≼-refl,
+  ≼-trans,
+  times-mono,
+  minus-below,
+  smaller-left,
+  floor-most,
+  smaller-cases,
+  smaller-den,
+  times-den,
+  times-same,
+  floor-equal,
+  floor-times-smaller,
+  minus-den,
+}
 use Rattle.storey.specs.declared.StoreyWall.{StoreyWall}
 use Rattle.storey.specs.Range.{inRange}
 use Rattle.storey.specs.BucklingLength.{bucklingLength}
 use Rattle.storey.proofs.Range.{range-bounds}
-use Rattle.storey.specs.Resistance.{atMidHeight, supportFactor, atSupport, reduction, unreduced, exactResistance, resistance, MidHeightInputs, SupportInputs, Fifths, SupportFactor}
+use Rattle.storey.specs.Resistance.{
+  atMidHeight,
+  supportFactor,
+  atSupport,
+  reduction,
+  unreduced,
+  exactResistance,
+  resistance,
+  MidHeightInputs,
+  SupportInputs,
+  Fifths,
+  SupportFactor,
+}
 
 -- Products
 

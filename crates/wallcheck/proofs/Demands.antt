@@ -46,7 +46,22 @@ use Rattle.report.specs.Text.{resultText}
 use Rattle.report.specs.Reading.{readResult}
 use Rattle.report.proofs.Reading.{text-reads-back}
 use Rattle.wallcheck.specs.Entry.{lineResult, rowResult, Lent, lent}
-use Rattle.wallcheck.specs.Demands.{NotALine, LineOfRecord, RowIsLine, OtherRowsRefused, ShortBuffer, WrittenTo, LineWritten, RowWritten, StoreyNumbers, StoreyLine, CellarNumbers, CellarLine, StoreyLines, CellarLines}
+use Rattle.wallcheck.specs.Demands.{
+  NotALine,
+  LineOfRecord,
+  RowIsLine,
+  OtherRowsRefused,
+  ShortBuffer,
+  WrittenTo,
+  LineWritten,
+  RowWritten,
+  StoreyNumbers,
+  StoreyLine,
+  CellarNumbers,
+  CellarLine,
+  StoreyLines,
+  CellarLines,
+}
 use Rattle.wallcheck.proofs.Entry.{line-below, row-below, text-within-64}
 
 -- Demand 1

@@ -3,7 +3,24 @@
 -- Below 1 the count is too small for that. Above, the digits with the leading one are counted by 2 ^ (e - 1) units, e the exponent, so from e = 1023 to 1075
 -- it is n exactly if the digits are n * 2 ^ (1075 - e); from 1076 on n is at least 2 ^ 53. The exponent 2047 is that of the infinities and NaNs. Assumes nothing.
 use Prim.Native.Nat.{ℕ, zero, suc, _+_, _-_, _*_, _/_, _%_, _^_, _≤_, _<_}
-use native.Mathlib.Nat.{div-add-mod', div-le-self, eq-of-mul-eq-mul-right, le-add-right, le-of-eq, le-of-mul-le-mul-right, le-trans, lt-of-le-of-lt, lt-of-lt-of-le, mod-lt, mul-assoc, mul-le-mul-right, mul-mod-left, not-le-of-lt, suc-mul, zero-mul}
+use native.Mathlib.Nat.{
+  div-add-mod',
+  div-le-self,
+  eq-of-mul-eq-mul-right,
+  le-add-right,
+  le-of-eq,
+  le-of-mul-le-mul-right,
+  le-trans,
+  lt-of-le-of-lt,
+  lt-of-lt-of-le,
+  mod-lt,
+  mul-assoc,
+  mul-le-mul-right,
+  mul-mod-left,
+  not-le-of-lt,
+  suc-mul,
+  zero-mul,
+}
 use native.Mathlib.Omega.{arith}
 use mathlib.Core.Bool.{Bool, true, false, cond}
 use mathlib.Core.Logic.{_↔_}

@@ -19,15 +19,35 @@ returns-3 c = rw (le-ltb _ _ (c .before .before .if1 .left), le-ltb _ _ (c .befo
 
 returns-4 : tie.Need-returns-4
 unfolding firstOf tooThin tooHigh fillTooHigh groundLoadTooGreat tooWeak
-returns-4 c = rw (le-ltb _ _ (c .before .before .before .if1 .left), le-ltb _ _ (c .before .before .if2 .left), le-ltb _ _ (c .before .if3 .left), lt-ltb _ _ (c .if4 .taken))
+returns-4 c =
+    rw (
+      le-ltb _ _ (c .before .before .before .if1 .left),
+      le-ltb _ _ (c .before .before .if2 .left),
+      le-ltb _ _ (c .before .if3 .left),
+      lt-ltb _ _ (c .if4 .taken),
+    )
 
 returns-5 : tie.Need-returns-5
 unfolding firstOf tooThin tooHigh fillTooHigh groundLoadTooGreat tooWeak
-returns-5 c = rw (le-ltb _ _ (c .before .before .before .before .if1 .left), le-ltb _ _ (c .before .before .before .if2 .left), le-ltb _ _ (c .before .before .if3 .left), le-ltb _ _ (c .before .if4 .left), lt-ltb _ _ (c .if5 .taken))
+returns-5 c =
+    rw (
+      le-ltb _ _ (c .before .before .before .before .if1 .left),
+      le-ltb _ _ (c .before .before .before .if2 .left),
+      le-ltb _ _ (c .before .before .if3 .left),
+      le-ltb _ _ (c .before .if4 .left),
+      lt-ltb _ _ (c .if5 .taken),
+    )
 
 returns-6 : tie.Need-returns-6
 unfolding firstOf tooThin tooHigh fillTooHigh groundLoadTooGreat tooWeak
-returns-6 c = rw (le-ltb _ _ (c .before .before .before .before .if1 .left), le-ltb _ _ (c .before .before .before .if2 .left), le-ltb _ _ (c .before .before .if3 .left), le-ltb _ _ (c .before .if4 .left), le-ltb _ _ (c .if5 .left))
+returns-6 c =
+    rw (
+      le-ltb _ _ (c .before .before .before .before .if1 .left),
+      le-ltb _ _ (c .before .before .before .if2 .left),
+      le-ltb _ _ (c .before .before .if3 .left),
+      le-ltb _ _ (c .before .if4 .left),
+      le-ltb _ _ (c .if5 .left),
+    )
 
 pub limit-spec : {M : Type 1} → statement M
 limit-spec = tie.close (tie.spec returns returns-2 returns-3 returns-4 returns-5 returns-6)

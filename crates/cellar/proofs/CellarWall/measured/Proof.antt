@@ -21,10 +21,20 @@ measure-requires : tie.Need-measure-requires
 measure-requires c κs = search needs
 
 cast-filled : tie.Need-cast-filled
-cast-filled c = omega (arith, c .before .before .load .ensures, load-most (c .before .before .before .before .args .self) (c .before .before .before .before .pre .in-range))
+cast-filled c =
+    omega (
+      arith,
+      c .before .before .load .ensures,
+      load-most (c .before .before .before .before .args .self) (c .before .before .before .before .pre .in-range),
+    )
 
 cast-filled-2 : tie.Need-cast-filled-2
-cast-filled-2 c = omega (arith, c .before .resistance .ensures, resistance-most (c .before .before .before .before .args .self) (c .before .before .before .before .pre .in-range))
+cast-filled-2 c =
+    omega (
+      arith,
+      c .before .resistance .ensures,
+      resistance-most (c .before .before .before .before .args .self) (c .before .before .before .before .pre .in-range),
+    )
 
 filled-requires : tie.Need-filled-requires
 filled-requires c κs = search needs
@@ -33,7 +43,11 @@ returns : tie.Need-returns
 returns c =
     c .filled .ensures
     ∙ check-measured (c .before .before .before .before .before .args .self) (c .before .before .before .before .before .pre .in-range) (c .before .before .before .before .before .pre .within-limits) _ _ _ _
-    (c .before .measure .ensures ∙ rw (c .before .before .resistance .ensures, c .before .before .before .load .ensures, c .before .before .before .before .required-load .ensures))
+    (c .before .measure .ensures ∙ rw (
+      c .before .before .resistance .ensures,
+      c .before .before .before .load .ensures,
+      c .before .before .before .before .required-load .ensures,
+    ))
     (c .before .before .before .before .required-load .ensures) (c .before .before .before .load .ensures) (c .before .before .resistance .ensures)
 
 pub measured-spec : {M : Type 1} → statement M

@@ -2,7 +2,17 @@
 use borrow.Author.Needs.{needs}
 use native.Mathlib.Omega.{arith}
 use mathlib.Core.Path.{_∙_}
-use Rattle.cellar.proofs.RequiredLoad.{factors, weight-height-most, fill-square-most, pressure-most, pressure-height-most, between-divisor-most, required-wide, required-close, required-between}
+use Rattle.cellar.proofs.RequiredLoad.{
+  factors,
+  weight-height-most,
+  fill-square-most,
+  pressure-most,
+  pressure-height-most,
+  between-divisor-most,
+  required-wide,
+  required-close,
+  required-between,
+}
 use Rattle.cellar.proofs.CellarWall.required_load.Statement.{statement}
 use Rattle.cellar.proofs.CellarWall.required_load.Tie as tie
 
@@ -28,7 +38,11 @@ ceil-div-requires : tie.Need-ceil-div-requires
 ceil-div-requires c κs = search needs
 
 returns : tie.Need-returns
-returns c = c .ceil-div .ensures ∙ required-wide (c .before .before .args .self) (omega (arith, factors (c .before .before .args .self) (c .before .before .pre) .thickness-least)) (c .before .if1 .taken)
+returns c =
+    c .ceil-div .ensures ∙ required-wide (c .before .before .args .self) (omega (
+      arith,
+      factors (c .before .before .args .self) (c .before .before .pre) .thickness-least,
+    )) (c .before .if1 .taken)
 
 mul-ceil-div-2 : tie.Need-mul-ceil-div-2
 mul-ceil-div-2 c = omega (arith, factors (c .before .before .args .self) (c .before .before .pre) .thickness-most)
@@ -39,7 +53,10 @@ ceil-div-requires-2 c κs = search needs
 returns-2 : tie.Need-returns-2
 returns-2 c =
     c .ceil-div2 .ensures
-    ∙ required-close (c .before .before .before .args .self) (omega (arith, factors (c .before .before .before .args .self) (c .before .before .before .pre) .thickness-least)) (c .before .before .if1 .left) (c .before .if2 .taken)
+    ∙ required-close (c .before .before .before .args .self) (omega (
+      arith,
+      factors (c .before .before .before .args .self) (c .before .before .before .pre) .thickness-least,
+    )) (c .before .before .if1 .left) (c .before .if2 .taken)
 
 mul-factor : tie.Need-mul-factor
 mul-factor c = omega (arith, factors (c .before .before .args .self) (c .before .before .pre) .height-most)
@@ -62,7 +79,10 @@ ceil-div-requires-3 c κs = search needs
 returns-3 : tie.Need-returns-3
 returns-3 c =
     c .ceil-div3 .ensures
-    ∙ required-between (c .before .before .before .args .self) (omega (arith, factors (c .before .before .before .args .self) (c .before .before .before .pre) .thickness-least)) (c .before .before .if1 .left) (c .before .if2 .left)
+    ∙ required-between (c .before .before .before .args .self) (omega (
+      arith,
+      factors (c .before .before .before .args .self) (c .before .before .before .pre) .thickness-least,
+    )) (c .before .before .if1 .left) (c .before .if2 .left)
 
 pub required-load-spec : {M : Type 1} → statement M
 required-load-spec =

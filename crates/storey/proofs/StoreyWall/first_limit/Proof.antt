@@ -25,27 +25,89 @@ returns-5 c = rw (c .before .before .before .before .if1 .left, c .before .befor
 
 returns-6 : tie.Need-returns-6
 unfolding firstOf
-returns-6 c = rw (c .before .before .before .before .before .if1 .left, c .before .before .before .before .if2 .left, c .before .before .before .if3 .left, c .before .before .if4 .left, c .before .if5 .left, c .if6 .taken)
+returns-6 c =
+    rw (
+      c .before .before .before .before .before .if1 .left,
+      c .before .before .before .before .if2 .left,
+      c .before .before .before .if3 .left,
+      c .before .before .if4 .left,
+      c .before .if5 .left,
+      c .if6 .taken,
+    )
 
 returns-7 : tie.Need-returns-7
 unfolding firstOf
-returns-7 c = rw (c .before .before .before .before .before .before .if1 .left, c .before .before .before .before .before .if2 .left, c .before .before .before .before .if3 .left, c .before .before .before .if4 .left, c .before .before .if5 .left, c .before .if6 .left, c .if7 .taken)
+returns-7 c =
+    rw (
+      c .before .before .before .before .before .before .if1 .left,
+      c .before .before .before .before .before .if2 .left,
+      c .before .before .before .before .if3 .left,
+      c .before .before .before .if4 .left,
+      c .before .before .if5 .left,
+      c .before .if6 .left,
+      c .if7 .taken,
+    )
 
 returns-8 : tie.Need-returns-8
 unfolding firstOf
-returns-8 c = rw (c .before .before .before .before .before .before .before .if1 .left, c .before .before .before .before .before .before .if2 .left, c .before .before .before .before .before .if3 .left, c .before .before .before .before .if4 .left, c .before .before .before .if5 .left, c .before .before .if6 .left, c .before .if7 .left, c .if8 .taken)
+returns-8 c =
+    rw (
+      c .before .before .before .before .before .before .before .if1 .left,
+      c .before .before .before .before .before .before .if2 .left,
+      c .before .before .before .before .before .if3 .left,
+      c .before .before .before .before .if4 .left,
+      c .before .before .before .if5 .left,
+      c .before .before .if6 .left,
+      c .before .if7 .left,
+      c .if8 .taken,
+    )
 
 returns-9 : tie.Need-returns-9
 unfolding firstOf
-returns-9 c = rw (c .before .before .before .before .before .before .before .before .if1 .left, c .before .before .before .before .before .before .before .if2 .left, c .before .before .before .before .before .before .if3 .left, c .before .before .before .before .before .if4 .left, c .before .before .before .before .if5 .left, c .before .before .before .if6 .left, c .before .before .if7 .left, c .before .if8 .left, c .if9 .taken)
+returns-9 c =
+    rw (
+      c .before .before .before .before .before .before .before .before .if1 .left,
+      c .before .before .before .before .before .before .before .if2 .left,
+      c .before .before .before .before .before .before .if3 .left,
+      c .before .before .before .before .before .if4 .left,
+      c .before .before .before .before .if5 .left,
+      c .before .before .before .if6 .left,
+      c .before .before .if7 .left,
+      c .before .if8 .left,
+      c .if9 .taken,
+    )
 
 returns-10 : tie.Need-returns-10
 unfolding firstOf
-returns-10 c = rw (c .before .before .before .before .before .before .before .before .before .if1 .left, c .before .before .before .before .before .before .before .before .if2 .left, c .before .before .before .before .before .before .before .if3 .left, c .before .before .before .before .before .before .if4 .left, c .before .before .before .before .before .if5 .left, c .before .before .before .before .if6 .left, c .before .before .before .if7 .left, c .before .before .if8 .left, c .before .if9 .left, c .if10 .taken)
+returns-10 c =
+    rw (
+      c .before .before .before .before .before .before .before .before .before .if1 .left,
+      c .before .before .before .before .before .before .before .before .if2 .left,
+      c .before .before .before .before .before .before .before .if3 .left,
+      c .before .before .before .before .before .before .if4 .left,
+      c .before .before .before .before .before .if5 .left,
+      c .before .before .before .before .if6 .left,
+      c .before .before .before .if7 .left,
+      c .before .before .if8 .left,
+      c .before .if9 .left,
+      c .if10 .taken,
+    )
 
 returns-11 : tie.Need-returns-11
 unfolding firstOf
-returns-11 c = rw (c .before .before .before .before .before .before .before .before .before .if1 .left, c .before .before .before .before .before .before .before .before .if2 .left, c .before .before .before .before .before .before .before .if3 .left, c .before .before .before .before .before .before .if4 .left, c .before .before .before .before .before .if5 .left, c .before .before .before .before .if6 .left, c .before .before .before .if7 .left, c .before .before .if8 .left, c .before .if9 .left, c .if10 .left)
+returns-11 c =
+    rw (
+      c .before .before .before .before .before .before .before .before .before .if1 .left,
+      c .before .before .before .before .before .before .before .before .if2 .left,
+      c .before .before .before .before .before .before .before .if3 .left,
+      c .before .before .before .before .before .before .if4 .left,
+      c .before .before .before .before .before .if5 .left,
+      c .before .before .before .before .if6 .left,
+      c .before .before .before .if7 .left,
+      c .before .before .if8 .left,
+      c .before .if9 .left,
+      c .if10 .left,
+    )
 
 pub first-limit-spec : {M : Type 1} → statement M
 first-limit-spec =

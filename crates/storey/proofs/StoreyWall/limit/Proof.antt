@@ -23,7 +23,11 @@ bearing-too-shallow-requires : tie.Need-bearing-too-shallow-requires
 bearing-too-shallow-requires c κs = search needs
 
 mul-first-limit : tie.Need-mul-first-limit
-mul-first-limit c = omega (arith, range-bounds (c .before .before .before .before .before .args .self) (c .before .before .before .before .before .pre .in-range) .thickness-most)
+mul-first-limit c =
+    omega (
+      arith,
+      range-bounds (c .before .before .before .before .before .args .self) (c .before .before .before .before .before .pre .in-range) .thickness-most,
+    )
 
 first-limit-requires : tie.Need-first-limit-requires
 first-limit-requires c κs = search needs

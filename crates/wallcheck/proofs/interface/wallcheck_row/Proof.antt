@@ -25,7 +25,11 @@ check-row-requires-2 c κs = search needs
 
 returns-2 : tie.Need-returns-2
 unfolding cellsResult
-returns-2 c = c .check-row2 .ensures ∙ ap rowResult (c .before .row-of2 .ensures) ∙ rw (ne-eqb _ _ (c .before .before .before .if1 .left), eq-eqb _ _ (c .before .before .if2 .taken))
+returns-2 c =
+    c .check-row2 .ensures ∙ ap rowResult (c .before .row-of2 .ensures) ∙ rw (
+      ne-eqb _ _ (c .before .before .before .if1 .left),
+      eq-eqb _ _ (c .before .before .if2 .taken),
+    )
 
 row-of-requires-3 : tie.Need-row-of-requires-3
 row-of-requires-3 c κs = search needs
@@ -35,7 +39,12 @@ check-row-requires-3 c κs = search needs
 
 returns-3 : tie.Need-returns-3
 unfolding cellsResult
-returns-3 c = c .check-row3 .ensures ∙ ap rowResult (c .before .row-of3 .ensures) ∙ rw (ne-eqb _ _ (c .before .before .before .before .if1 .left), ne-eqb _ _ (c .before .before .before .if2 .left), eq-eqb _ _ (c .before .before .if3 .taken))
+returns-3 c =
+    c .check-row3 .ensures ∙ ap rowResult (c .before .row-of3 .ensures) ∙ rw (
+      ne-eqb _ _ (c .before .before .before .before .if1 .left),
+      ne-eqb _ _ (c .before .before .before .if2 .left),
+      eq-eqb _ _ (c .before .before .if3 .taken),
+    )
 
 refused-requires : tie.Need-refused-requires
 refused-requires c κs = search needs
