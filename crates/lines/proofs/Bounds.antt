@@ -1,0 +1,66 @@
+-- Bounds on what `answer` and `answer_last` hand back, for their caller.
+use Prim.Native.Nat.{ℕ, _/_, _≤_, _<_}
+use native.Mathlib.Omega.{arith}
+use mathlib.Core.Bool.{true, or-true}
+use mathlib.Core.List.{List, [], _∷_}
+use mathlib.Core.Path.{_≡_, sym, ap, _∙_}
+use lib.Dec.{leb}
+use lib.ListN.{length, take, length-take, length-drop, take-append-drop}
+use borrow.Author.Tests.{leb-true}
+use Rattle.basis.proofs.Choice.{cond-cases}
+use Rattle.report.specs.Text.{resultText}
+use Rattle.report.specs.Written.{Written}
+use Rattle.lines.specs.declared.Progress.{Progress}
+use Rattle.lines.specs.Output.{scheduleResult}
+use Rattle.lines.specs.Answer.{ended, endedLength, answeredOf, unansweredOf, heldOf, Answered, answered, answeredLast}
+use Rattle.lines.proofs.LineEnd.{ended-append}
+use Rattle.lines.proofs.EndedLines.{unanswered-fewer, held-ended, held-fewer}
+use Rattle.lines.proofs.Answering.{answered-fits}
+
+module _
+    (input : List ℕ) (held : ℕ) (output : List ℕ) {progress : Progress} {input' output' : List ℕ}
+    (is : record { progress = progress; input = input'; output = output' } ≡ answered input held output) where
+  pub written-within : progress .written ≤ length output
+  unfolding answered
+  written-within = omega (arith, ap (λ (a : Answered). a .progress .written) is, answered-fits (length output / 64) (take held input))
+
+  pub held-within : progress .held ≤ length input
+  unfolding answered
+  held-within =
+      let bytes = take held input in
+      let taken = endedLength (length output / 64) bytes in
+      omega (
+        arith,
+        ap (λ (a : Answered). a .progress .held) is,
+        held-fewer (unansweredOf (length output / 64) bytes),
+        length-drop taken bytes,
+        length-take held input,
+      )
+
+  -- Where an ended line is left, at least one was taken.
+  pub held-falls : 64 ≤ length output → progress .more ≡ true → progress .held < held
+  unfolding answered
+  held-falls room more =
+      let most = length output / 64 in
+      let bytes = take held input in
+      let behind : ended (unansweredOf most bytes) ≡ true = sym (ap (λ (a : Answered). a .progress .more) is) ∙ more in
+      let before : ended bytes ≡ true =
+      ap ended (sym (take-append-drop (endedLength most bytes) bytes)) ∙ ended-append (answeredOf most bytes) (unansweredOf most bytes) ∙ rw (behind, or-true) in
+      omega (
+        arith,
+        ap (λ (a : Answered). a .progress .held) is,
+        ap length (held-ended (unansweredOf most bytes) behind),
+        unanswered-fewer most bytes (omega arith) before,
+        length-take held input,
+      )
+
+last-count : (line output : List ℕ) → answeredLast line output .count ≤ length output
+unfolding answeredLast
+last-count [] output = omega arith
+last-count (byte ∷ bytes) output =
+    let size = length (resultText (scheduleResult (byte ∷ bytes))) in
+    cond-cases (λ n. n ≤ length output) (leb size (length output)) (leb-true size (length output)) (λ _. omega arith)
+
+pub last-within :
+    (line output : List ℕ) {output' : List ℕ} {count : ℕ} → record { buffer = output'; count = count } ≡ answeredLast line output → count ≤ length output
+last-within line output is = omega (arith, ap (λ (w : Written). w .count) is, last-count line output)

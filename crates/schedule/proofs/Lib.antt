@@ -1,0 +1,2 @@
+-- What holds of the two buffers from turn to turn.
+pub mod Held
