@@ -1,10 +1,11 @@
--- Ended lines answered one after the other, as `answer_lines` does it.
-use Prim.Native.Nat.{ℕ, zero, suc, _+_, _-_, _*_, _/_, _≤_, _<_}
+-- Ended lines answered one after the other, as `answer_lines` does it. What is answered so far is whole lines (`Whole`), so its text is the
+-- output for it, and the text of the next line joins that of the lines before.
+use Prim.Native.Nat.{ℕ, zero, suc, _+_, _-_, _*_, _≤_, _<_}
 use native.Mathlib.Nat.{zero-add, add-zero}
 use native.Mathlib.Omega.{arith}
 use mathlib.Core.Bool.{true, false}
 use mathlib.Core.List.{List, [], _∷_, _++_, append-nil}
-use mathlib.Core.Path.{_≡_, refl, sym, ap, _∙_}
+use mathlib.Core.Path.{_≡_, sym, ap, _∙_}
 use lib.ListN.{length, take, drop, length-append, length-drop}
 use lib.Seq.{take-add, drop-drop, length-take-le}
 use Rattle.basis.specs.declared.CheckResult.{CheckResult}
@@ -15,19 +16,19 @@ use Rattle.report.specs.Written.{Written, written}
 use Rattle.report.proofs.Written.{written-count}
 use Rattle.wallcheck.specs.Entry.{lineResult}
 use Rattle.wallcheck.proofs.Entry.{line-below, text-within-64}
-use Rattle.lines.specs.Output.{scheduleResult, lineText, outputOf}
-use Rattle.lines.specs.Answer.{ended, lineLength, endedLength, answeredOf}
-use Rattle.lines.specs.Claims.{AnswerFits}
+use Rattle.lines.specs.Output.{lineText, outputOf}
+use Rattle.lines.specs.Answer.{ended, lineLength, endedLength, answeredOf, roomFor}
 use Rattle.lines.proofs.LineEnd.{line-unended, line-with-end, line-cases, lineLength-ended, ended-cases}
 use Rattle.lines.proofs.Output.{output-none, output-line, Whole, whole-none, whole-line, whole-append}
 use Rattle.lines.proofs.EndedLines.{endedLength-none, endedLength-more, answered-line}
 use Rattle.lines.proofs.LongLine.{schedule-result}
 
+-- ── the length of the text ──
 pub text-short : (line : List ℕ) → length (lineText line) ≤ 64
 unfolding lineText
 text-short line = rw (schedule-result line) (text-within-64 _ (line-below line))
 
-pub answered-fits : AnswerFits
+pub answered-fits : (most : ℕ) (bytes : List ℕ) → length (outputOf (answeredOf most bytes)) ≤ 64 * most
 unfolding endedLength
 answered-fits zero bytes = rw output-none (omega arith)
 answered-fits (suc most) bytes =
@@ -36,16 +37,17 @@ answered-fits (suc most) bytes =
     (λ line rest e. rw (answered-line most line rest e, output-line line (answeredOf most rest) e, length-append) (omega (arith, text-short line, answered-fits most rest))) bytes)
     (λ e. rw (endedLength-none (suc most) bytes e, output-none) (omega arith))
 
+-- ── the state between two lines ──
 -- The first `taken` bytes of the block are answered in the first `filled` bytes of the output, which has room for `left` lines more.
 pub record Answering (block output₀ output : List ℕ) (left taken filled : ℕ) : Type 0 where
   pub within : taken ≤ length block
-  pub bytes : taken + endedLength left (drop taken block) ≡ endedLength (length output₀ / 64) block
+  pub bytes : taken + endedLength left (drop taken block) ≡ endedLength (roomFor output₀) block
   pub whole : Whole (take taken block)
   pub text : output ≡ overwrite output₀ 0 (outputOf (take taken block))
   pub size : filled ≡ length (outputOf (take taken block))
   pub room : filled + 64 * left ≤ length output₀
 
-pub answering-none : (block output : List ℕ) → Answering block output output (length output / 64) 0 0
+pub answering-none : (block output : List ℕ) → Answering block output output (roomFor output) 0 0
 answering-none block output =
     record {
       within = omega arith;
@@ -62,12 +64,13 @@ output-length {block} {output₀} a = ap length (a .text) ∙ overwrite-length o
 -- No line more: there is no room for one, or none is ended.
 pub answering-done :
     {block output₀ output : List ℕ} {left taken filled : ℕ} → Answering block output₀ output left taken filled → endedLength left (drop taken block) ≡ 0
-    → (taken ≡ endedLength (length output₀ / 64) block)
-    × ((filled ≡ length (outputOf (answeredOf (length output₀ / 64) block))) × (output ≡ overwrite output₀ 0 (outputOf (answeredOf (length output₀ / 64) block))))
+    → (taken ≡ endedLength (roomFor output₀) block)
+    × ((filled ≡ length (outputOf (answeredOf (roomFor output₀) block))) × (output ≡ overwrite output₀ 0 (outputOf (answeredOf (roomFor output₀) block))))
 answering-done {block} {output₀} {taken = taken} a none =
-    let all : taken ≡ endedLength (length output₀ / 64) block = omega (arith, a .bytes) in
+    let all : taken ≡ endedLength (roomFor output₀) block = omega (arith, a .bytes) in
     (all, (a .size ∙ ap (λ (n : ℕ). length (outputOf (take n block))) all, a .text ∙ ap (λ (n : ℕ). overwrite output₀ 0 (outputOf (take n block))) all))
 
+-- ── one line more ──
 -- A text that is written to the part of the output from byte `at` on.
 written-part :
     (result : CheckResult) (output : List ℕ) (at : ℕ) {part : List ℕ} {count : ℕ} → at + length (resultText result) ≤ length output
@@ -79,7 +82,7 @@ written-part result output at fits wrote =
       ap (λ (w : Written). w .count) wrote ∙ written-count result (take (length output - at) (drop at output)) (omega arith),
     )
 
--- One line more: the one that begins at `taken` and ends at `end`.
+-- The line begins at `taken` and ends at `end`.
 module _
     {block output₀ output : List ℕ} {left taken filled : ℕ} (end : ℕ) (a : Answering block output₀ output left taken filled) (some : 0 < left)
     (at : end ≡ taken + lineLength (drop taken block)) (e : ended (drop taken block) ≡ true) where

@@ -1,5 +1,5 @@
 -- Bounds on what `answer` and `answer_last` hand back, for their caller.
-use Prim.Native.Nat.{ℕ, _/_, _≤_, _<_}
+use Prim.Native.Nat.{ℕ, _≤_, _<_}
 use native.Mathlib.Omega.{arith}
 use mathlib.Core.Bool.{true, or-true}
 use mathlib.Core.List.{List, [], _∷_}
@@ -11,41 +11,41 @@ use Rattle.basis.proofs.Choice.{cond-cases}
 use Rattle.report.specs.Text.{resultText}
 use Rattle.report.specs.Written.{Written}
 use Rattle.lines.specs.declared.Progress.{Progress}
-use Rattle.lines.specs.Output.{scheduleResult}
-use Rattle.lines.specs.Answer.{ended, endedLength, answeredOf, unansweredOf, heldOf, Answered, answered, answeredLast}
+use Rattle.lines.specs.Output.{scheduleResult, outputOf}
+use Rattle.lines.specs.Answer.{ended, endedLength, answeredOf, unansweredOf, heldOf, roomFor, Answered, answered, answeredLast}
 use Rattle.lines.proofs.LineEnd.{ended-append}
 use Rattle.lines.proofs.EndedLines.{unanswered-fewer, held-ended, held-fewer}
 use Rattle.lines.proofs.Answering.{answered-fits}
+
+-- The text fits the output, and what is held the input.
+pub text-fits : (output bytes : List ℕ) → length (outputOf (answeredOf (roomFor output) bytes)) ≤ length output
+text-fits output bytes = omega (arith, answered-fits (roomFor output) bytes)
+
+pub held-fits : (most : ℕ) (input : List ℕ) (held : ℕ) → length (heldOf (unansweredOf most (take held input))) ≤ length input
+held-fits most input held =
+    let bytes = take held input in
+    omega (arith, held-fewer (unansweredOf most bytes), length-drop (endedLength most bytes) bytes, length-take held input)
 
 module _
     (input : List ℕ) (held : ℕ) (output : List ℕ) {progress : Progress} {input' output' : List ℕ}
     (is : record { progress = progress; input = input'; output = output' } ≡ answered input held output) where
   pub written-within : progress .written ≤ length output
   unfolding answered
-  written-within = omega (arith, ap (λ (a : Answered). a .progress .written) is, answered-fits (length output / 64) (take held input))
+  written-within = omega (arith, ap (λ (a : Answered). a .progress .written) is, text-fits output (take held input))
 
   pub held-within : progress .held ≤ length input
   unfolding answered
-  held-within =
-      let bytes = take held input in
-      let taken = endedLength (length output / 64) bytes in
-      omega (
-        arith,
-        ap (λ (a : Answered). a .progress .held) is,
-        held-fewer (unansweredOf (length output / 64) bytes),
-        length-drop taken bytes,
-        length-take held input,
-      )
+  held-within = omega (arith, ap (λ (a : Answered). a .progress .held) is, held-fits (roomFor output) input held)
 
   -- Where an ended line is left, at least one was taken.
   pub held-falls : 64 ≤ length output → progress .more ≡ true → progress .held < held
   unfolding answered
   held-falls room more =
-      let most = length output / 64 in
+      let most = roomFor output in
       let bytes = take held input in
       let behind : ended (unansweredOf most bytes) ≡ true = sym (ap (λ (a : Answered). a .progress .more) is) ∙ more in
-      let before : ended bytes ≡ true =
-      ap ended (sym (take-append-drop (endedLength most bytes) bytes)) ∙ ended-append (answeredOf most bytes) (unansweredOf most bytes) ∙ rw (behind, or-true) in
+      let split = ap ended (sym (take-append-drop (endedLength most bytes) bytes)) ∙ ended-append (answeredOf most bytes) (unansweredOf most bytes) in
+      let before : ended bytes ≡ true = split ∙ rw (behind, or-true) in
       omega (
         arith,
         ap (λ (a : Answered). a .progress .held) is,

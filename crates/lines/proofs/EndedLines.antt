@@ -1,14 +1,13 @@
 -- Laws of what is answered of the bytes at hand and of what is held.
-use Prim.Native.Nat.{ℕ, zero, suc, _+_, _≤_, _<_, min}
+use Prim.Native.Nat.{ℕ, zero, suc, _+_, _≤_, min}
 use native.Mathlib.Decide.{decLe}
 use native.Mathlib.Nat.{min-eq-left, min-eq-right}
 use native.Mathlib.Omega.{arith}
 use mathlib.Core.Bool.{true, false, cond}
-use mathlib.Core.List.{List, [], _∷_, _++_, append-assoc}
+use mathlib.Core.List.{List, _∷_, _++_, append-assoc}
 use mathlib.Core.Path.{_≡_, refl, sym, ap, _∙_}
 use lib.ListN.{length, take, drop, length-append, length-take, length-drop, take-append-drop}
 use lib.Seq.{take-all, take-length, length-take-le, take-append-add, drop-append-add}
-use Rattle.basis.proofs.Choice.{cond-cases}
 use Rattle.basis.proofs.Choice.{or-left}
 use Rattle.lines.specs.Output.{outputOf}
 use Rattle.lines.specs.Answer.{ended, lineLength, endedLength, answeredOf, unansweredOf, heldOf}
@@ -86,14 +85,20 @@ held-fewer bytes =
     ended-cases (length (heldOf bytes) ≤ length bytes) bytes
     (λ e. rw (held-ended bytes e) (omega arith)) (λ e. rw (held-unended bytes e, length-take) (omega arith))
 
+cut-unended : (bytes : List ℕ) → ended bytes ≡ false → ended (take 201 bytes) ≡ false
+cut-unended bytes e = or-left _ _ (sym (ended-append (take 201 bytes) (drop 201 bytes)) ∙ ap ended (take-append-drop 201 bytes) ∙ e)
+
+pub held-kept : (bytes : List ℕ) → ended (heldOf bytes) ≡ ended bytes
+held-kept bytes =
+    ended-cases (ended (heldOf bytes) ≡ ended bytes) bytes
+    (λ e. rw (held-ended bytes e)) (λ e. rw (held-unended bytes e, cut-unended bytes e, e))
+
 -- Holding less changes no output: a line is cut only where it is over 200 bytes and has no end yet, and still is so then.
 output-cut : (bytes t : List ℕ) → ended bytes ≡ false → outputOf (take 201 bytes ++ t) ≡ outputOf (bytes ++ t)
 output-cut bytes t e =
     elim (decLe (length bytes) 201) [
       | yes few ↦ rw (take-all 201 bytes few)
-      | no many ↦
-          let none : ended (take 201 bytes) ≡ false = or-left _ _ (sym (ended-append (take 201 bytes) (drop 201 bytes)) ∙ ap ended (take-append-drop 201 bytes) ∙ e) in
-          output-long (take 201 bytes) bytes t none e (omega (arith, length-take-le 201 bytes (omega arith))) (omega arith)
+      | no many ↦ output-long (take 201 bytes) bytes t (cut-unended bytes e) e (omega (arith, length-take-le 201 bytes (omega arith))) (omega arith)
     ]
 
 pub output-held : (bytes t : List ℕ) → outputOf (heldOf bytes ++ t) ≡ outputOf (bytes ++ t)
@@ -101,7 +106,6 @@ output-held bytes t =
     ended-cases (outputOf (heldOf bytes ++ t) ≡ outputOf (bytes ++ t)) bytes
     (λ e. rw (held-ended bytes e)) (λ e. rw (held-unended bytes e) (output-cut bytes t e))
 
--- How many bytes are held, from the front of those that are not answered.
 pub take-min : (n : ℕ) (l : List ℕ) → take (min n (length l)) l ≡ take n l
 take-min n l =
     elim (decLe n (length l)) [
@@ -109,6 +113,7 @@ take-min n l =
       | no many ↦ let all : length l ≤ n = omega arith in rw (min-eq-right all, take-length l, take-all n l all)
     ]
 
+-- How many bytes are held, from the front of those that are not answered.
 pub held-take : (bytes : List ℕ) → take (cond (ended bytes) (length bytes) (min 201 (length bytes))) bytes ≡ heldOf bytes
 unfolding heldOf
 held-take bytes = ended-cases _ bytes (λ e. rw e (take-length bytes)) (λ e. rw e (take-min 201 bytes))

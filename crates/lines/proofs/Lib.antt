@@ -1,10 +1,11 @@
--- Laws of the definitions, and the proofs of the claims of specs/.
+-- Laws of byte 10 (LineEnd), of the output (LongLine, Output), of what is answered and held (EndedLines), of the code's steps (Answering,
+-- AnswerCall) and for callers (Bounds); the claims.
 pub mod LineEnd
+pub mod LongLine
 pub mod Output
 pub mod EndedLines
 pub mod Answering
-pub mod Turn
+pub mod AnswerCall
 pub mod Bounds
 pub mod Claims
 pub mod WholeCase
-pub mod LongLine

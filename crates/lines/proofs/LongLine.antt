@@ -1,7 +1,7 @@
 -- A line over 200 bytes is not of the form: the letter and at most 16 numbers, each a space and at most 9 digits, are at most 161 bytes.
 use Prim.Native.Nat.{ℕ, _*_, _≤_}
 use native.Mathlib.Omega.{arith}
-use mathlib.Core.List.{List, [], _∷_, _++_}
+use mathlib.Core.List.{List, [], _∷_}
 use mathlib.Core.Path.{_≡_, refl, sym, ap}
 use lib.Dec.{ltb}
 use lib.ListN.{length, length-append}

@@ -1,19 +1,16 @@
 -- Laws of the output: a line in front of an input is answered in front of the output for the rest.
-use Prim.Native.Nat.{ℕ, zero, suc, _+_, _≤_, _<_}
-use native.Mathlib.Decide.{decLe}
-use native.Mathlib.Numerals.{add-one}
+use Prim.Native.Nat.{ℕ, _<_}
 use native.Mathlib.Omega.{arith}
-use mathlib.Core.Bool.{true, false}
+use mathlib.Core.Bool.{false}
 use mathlib.Core.List.{List, [], _∷_, _++_, append-assoc, append-nil, flatMap}
-use mathlib.Core.Path.{_≡_, refl, sym, ap, _∙_}
-use lib.Dec.{eqb}
-use lib.ListN.{length, take, drop, length-append}
-use borrow.Author.Tests.{lt-ltb}
+use mathlib.Core.Path.{_≡_, refl, ap, _∙_}
+use lib.ListN.{length, length-append}
 use Rattle.basis.specs.Result.{refusedWith}
 use Rattle.report.specs.Text.{resultText}
-use Rattle.lines.specs.Output.{inFront, linesOf, scheduleResult, lineText, outputOf}
+use Rattle.lines.specs.Output.{inFront, linesOf, lineText, outputOf}
 use Rattle.lines.specs.Answer.{ended}
 use Rattle.lines.specs.Claims.{lastText}
+use Rattle.lines.proofs.LongLine.{long-line-malformed, schedule-result}
 use Rattle.lines.proofs.LineEnd.{unended-first, unended-behind}
 
 -- ── bytes without byte 10 in front of an input ──
@@ -57,8 +54,8 @@ output-last (byte ∷ line) e = rw (linesOf-unended (byte ∷ line) e, begun-non
 
 -- Two lines over 200 bytes, neither ended yet, have the same text whatever comes behind.
 long-text : (line : List ℕ) → 200 < length line → lineText line ≡ resultText (refusedWith 1)
-unfolding lineText scheduleResult
-long-text line long = rw (lt-ltb 200 (length line) long)
+unfolding lineText
+long-text line long = ap resultText (schedule-result line ∙ long-line-malformed line long)
 
 begun-long : (a b : List ℕ) (lines : List (List ℕ)) → 200 < length a → 200 < length b → flatMap lineText (begun a lines) ≡ flatMap lineText (begun b lines)
 unfolding flatMap

@@ -1,6 +1,6 @@
 -- What is answered of the bytes at hand, however the input is cut into blocks.
 use Prim.Native.Nat.{ℕ, zero, suc, _+_, _/_}
-use mathlib.Core.Bool.{Bool, true, false, cond, _||_}
+use mathlib.Core.Bool.{Bool, false, cond, _||_}
 use mathlib.Core.List.{List, [], _∷_}
 use lib.Dec.{eqb}
 use lib.ListN.{length, take, drop}
@@ -36,8 +36,11 @@ unansweredOf most bytes = drop (endedLength most bytes) bytes
 unfoldable pub heldOf : List ℕ → List ℕ
 heldOf bytes = cond (ended bytes) bytes (take 201 bytes)
 
--- What `answer` hands back and leaves in the two buffers. The text of each line has at most 64 bytes, so the output has room for a
--- 64th as many lines.
+-- How many lines the output surely has room for: the text of each has at most 64 bytes.
+abbrev pub roomFor : List ℕ → ℕ
+roomFor output = length output / 64
+
+-- What `answer` hands back and leaves in the two buffers, with the first `held` bytes of the input at hand.
 pub record Answered : Type 0 where
   pub progress : Progress
   pub input : List ℕ
@@ -45,7 +48,7 @@ pub record Answered : Type 0 where
 
 unfoldable pub answered : List ℕ → ℕ → List ℕ → Answered
 answered input held output =
-    let most = length output / 64 in
+    let most = roomFor output in
     let bytes = take held input in
     let text = outputOf (answeredOf most bytes) in
     let rest = unansweredOf most bytes in

@@ -1,5 +1,5 @@
 -- Document 01's whole case: "A; A with support 2 and L=6000; A with G=200000; K; `S 175` print ..".
-use mathlib.Core.List.{List, [], _∷_, flatMap}
+use mathlib.Core.List.{[], _∷_, flatMap}
 use mathlib.Core.Path.{_≡_}
 use Rattle.text.specs.Quoted.{bytes}
 use Rattle.lines.specs.Output.{outputOf}

@@ -1,11 +1,11 @@
 // The lines of an input that comes in blocks, each answered by the text of its result.
 ghost use mathlib.Core.Bool.{cond};
 ghost use mathlib.Core.Path.{_≡_};
-ghost use Prim.Native.Nat.{_+_, _/_, _≤_, min};
+ghost use Prim.Native.Nat.{_+_, _≤_, min};
 ghost use lib.ListN.{length, take, drop};
 ghost use Rattle.buffer.specs.Overwrite.{overwrite};
 ghost use Rattle.lines.specs.Output.{outputOf};
-ghost use Rattle.lines.specs.Answer.{ended, lineLength, endedLength, answeredOf, answered, answeredLast};
+ghost use Rattle.lines.specs.Answer.{ended, lineLength, endedLength, answeredOf, roomFor, answered, answeredLast};
 
 // Byte 10.
 const LINE_END: u8 = b'\n';
@@ -65,9 +65,9 @@ struct Counts {
 
 // Answers the ended lines of `block`, as many as `output` surely has room for.
 fn answer_lines(block: &[u8], output: &mut [u8]) -> Counts
-    ensures taken { λ counts. ⌜ counts .taken ≡ endedLength (length (now (output .entry)) / 64) (now (block .entry)) ⌝ }
-    ensures written { λ counts. ⌜ counts .written ≡ length (outputOf (answeredOf (length (now (output .entry)) / 64) (now (block .entry)))) ⌝ }
-    ensures text { λ counts. ⌜ now (output .exit) ≡ overwrite (now (output .entry)) 0 (outputOf (answeredOf (length (now (output .entry)) / 64) (now (block .entry)))) ⌝ }
+    ensures taken { λ counts. ⌜ counts .taken ≡ endedLength (roomFor (now (output .entry))) (now (block .entry)) ⌝ }
+    ensures written { λ counts. ⌜ counts .written ≡ length (outputOf (answeredOf (roomFor (now (output .entry))) (now (block .entry)))) ⌝ }
+    ensures text { λ counts. ⌜ now (output .exit) ≡ overwrite (now (output .entry)) 0 (outputOf (answeredOf (roomFor (now (output .entry))) (now (block .entry)))) ⌝ }
 {
     let mut left = output.len() / LONGEST_TEXT;
     let mut taken = 0;

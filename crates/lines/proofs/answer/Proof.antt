@@ -1,10 +1,10 @@
--- `lines::answer` meets its contract: its calls give what the laws of `Turn` ask for. Assumes nothing.
+-- `lines::answer` meets its contract: its calls give what the laws of `AnswerCall` ask for. Assumes nothing.
 use Prim.Native.Nat.{_≤_}
 use mathlib.Core.Path.{_≡_, sym}
 use lib.ListN.{length, take}
 use denote.Ref.{now}
 use borrow.Author.Needs.{needs}
-use Rattle.lines.proofs.Turn.{block-length, taken-within, left-within, answered-is}
+use Rattle.lines.proofs.AnswerCall.{block-length, taken-within, left-within, answered-is}
 use Rattle.lines.proofs.answer.Statement.{statement}
 use Rattle.lines.proofs.answer.Tie as tie
 

@@ -2,7 +2,6 @@
 use native.Mathlib.Omega.{arith}
 use mathlib.Core.Path.{sym}
 use lib.Seq.{length-take-le}
-use denote.Ref.{now}
 use borrow.Author.Needs.{needs}
 use Rattle.lines.proofs.Bounds.{last-within}
 use Rattle.schedule.proofs.turn.Statement.{statement}

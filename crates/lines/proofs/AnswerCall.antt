@@ -1,17 +1,17 @@
 -- A call of `answer` in plain numbers: what its steps give is what `answered` says.
-use Prim.Native.Nat.{ℕ, _+_, _-_, _/_, _≤_, _<_, min}
+use Prim.Native.Nat.{ℕ, _+_, _-_, _≤_, min}
 use native.Mathlib.Nat.{min-le-right}
 use native.Mathlib.Omega.{arith}
-use mathlib.Core.Bool.{Bool, true, false, cond}
-use mathlib.Core.List.{List, [], _∷_, _++_}
-use mathlib.Core.Path.{_≡_, refl, sym, ap, _∙_}
+use mathlib.Core.Bool.{cond}
+use mathlib.Core.List.{List}
+use mathlib.Core.Path.{_≡_, sym, ap, _∙_}
 use lib.Dec.{ltb}
 use lib.ListN.{length, take, drop, length-drop}
 use lib.Seq.{length-take-le, take-take, take-add, drop-at}
 use Rattle.basis.proofs.Choice.{cond-cases}
 use Rattle.buffer.specs.Overwrite.{overwrite}
 use Rattle.lines.specs.Output.{outputOf}
-use Rattle.lines.specs.Answer.{ended, lineLength, endedLength, answeredOf, unansweredOf, heldOf, Answered, answered}
+use Rattle.lines.specs.Answer.{ended, lineLength, endedLength, answeredOf, heldOf, answered, roomFor}
 use Rattle.lines.proofs.LineEnd.{ended-before}
 use Rattle.lines.proofs.EndedLines.{endedLength-within, take-min, held-take}
 
@@ -31,9 +31,9 @@ module _ (input : List ℕ) (held : ℕ) {end : ℕ} (e : end ≡ min held (leng
 
 -- Of these, `taken` bytes are answered.
 module _
-    (input output : List ℕ) (held : ℕ) {end taken : ℕ} (e : end ≡ min held (length input)) (t : taken ≡ endedLength (length output / 64) (take end input)) where
+    (input output : List ℕ) (held : ℕ) {end taken : ℕ} (e : end ≡ min held (length input)) (t : taken ≡ endedLength (roomFor output) (take end input)) where
   pub taken-within : taken ≤ end
-  taken-within = omega (arith, endedLength-within (length output / 64) (take end input), block-length input held e)
+  taken-within = omega (arith, endedLength-within (roomFor output) (take end input), block-length input held e)
 
   rest-is : drop taken (take end input) ≡ take (end - taken) (drop taken input)
   rest-is =
@@ -64,8 +64,8 @@ module _
     left-is = sym (ap length (sym held-is) ∙ length-take-le left _ (omega (arith, left-most, rest-length)))
 
     pub answered-is :
-        {filled : ℕ} {input' output' : List ℕ} → filled ≡ length (outputOf (answeredOf (length output / 64) (take end input)))
-        → output' ≡ overwrite output 0 (outputOf (answeredOf (length output / 64) (take end input))) → input' ≡ overwrite input 0 (take left (drop taken input))
+        {filled : ℕ} {input' output' : List ℕ} → filled ≡ length (outputOf (answeredOf (roomFor output) (take end input)))
+        → output' ≡ overwrite output 0 (outputOf (answeredOf (roomFor output) (take end input))) → input' ≡ overwrite input 0 (take left (drop taken input))
         → record { progress = record { held = left; written = filled; more = ltb stop end }; input = input'; output = output' } ≡ answered input held output
     unfolding answered
     answered-is f o i =
