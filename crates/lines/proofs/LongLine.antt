@@ -1,4 +1,4 @@
--- A line over 200 bytes is not of the form: the letter and at most 16 numbers, each a space and at most 9 digits, are at most 161 bytes.
+-- A line over 200 bytes is not of the form: a letter and at most 16 numbers, each a space and at most 9 digits, are fewer bytes.
 use Prim.Native.Nat.{ℕ, _*_, _≤_}
 use native.Mathlib.Omega.{arith}
 use mathlib.Core.List.{List, [], _∷_}
@@ -26,7 +26,7 @@ unfolding fields
 fields-length [] nine = omega arith
 fields-length (n ∷ ns) nine = rw length-append (omega (arith, decimal-length-bound 8 n (nine .0), fields-length ns (nine .1)))
 
-line-length : (w : Wall) → NineDigits (numbersOf w) → length (lineOf w) ≤ 161
+line-length : (w : Wall) → NineDigits (numbersOf w) → length (lineOf w) ≤ 200
 line-length (Storey w) nine = omega (arith, fields-length (numbersOf (Storey w)) nine)
 line-length (Cellar w) nine = omega (arith, fields-length (numbersOf (Cellar w)) nine)
 

@@ -6,9 +6,37 @@ ghost use lib.ListN.{length};
 ghost use Rattle.buffer.specs.Overwrite.{overwrite};
 ghost use Rattle.text.specs.Decimal.{decimal};
 
-// How many digits a number has. `power` goes through 1, 10, 100, .. while ten times it is within the number; it is compared with the number's
-// tenth part, so that nothing overflows.
+// How many digits a number has. A few comparisons are faster than a loop; more than seven digits are rare.
 pub(crate) fn digits(number: u64) -> usize
+    ensures { λ count. ⌜ (count ≡ length (decimal number)) × (count ≤ 20) ⌝ }
+{
+    if number < 10 {
+        return 1;
+    }
+    if number < 100 {
+        return 2;
+    }
+    if number < 1_000 {
+        return 3;
+    }
+    if number < 10_000 {
+        return 4;
+    }
+    if number < 100_000 {
+        return 5;
+    }
+    if number < 1_000_000 {
+        return 6;
+    }
+    if number < 10_000_000 {
+        return 7;
+    }
+    digits_by_powers(number)
+}
+
+// The same for every number. `power` goes through 1, 10, 100, .. while ten times it is within the number; it is compared with the number's tenth
+// part, so that nothing overflows.
+fn digits_by_powers(number: u64) -> usize
     ensures { λ count. ⌜ (count ≡ length (decimal number)) × (count ≤ 20) ⌝ }
 {
     let tenth = number / 10;

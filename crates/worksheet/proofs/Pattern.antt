@@ -3,9 +3,10 @@
 -- Below 1 the count is too small for that. Above, the digits with the leading one are counted by 2 ^ (e - 1) units, e the exponent, so from e = 1023 to 1075
 -- it is n exactly if the digits are n * 2 ^ (1075 - e); from 1076 on n is at least 2 ^ 53. The exponent 2047 is that of the infinities and NaNs. Assumes nothing.
 use Prim.Native.Nat.{ℕ, zero, suc, _+_, _-_, _*_, _/_, _%_, _^_, _≤_, _<_}
+use native.Mathlib.Decide.{decLe}
 use native.Mathlib.Nat.{
-  div-add-mod',
   div-le-self,
+  div-mul-le-self,
   eq-of-mul-eq-mul-right,
   le-add-right,
   le-of-eq,
@@ -13,17 +14,18 @@ use native.Mathlib.Nat.{
   le-trans,
   lt-of-le-of-lt,
   lt-of-lt-of-le,
+  mod-eq-of-lt,
   mod-lt,
   mul-assoc,
+  mul-div-cancel,
   mul-le-mul-right,
-  mul-mod-left,
   not-le-of-lt,
   suc-mul,
   zero-mul,
 }
 use native.Mathlib.Omega.{arith}
 use mathlib.Core.Bool.{Bool, true, false, cond}
-use mathlib.Core.Logic.{_↔_}
+use mathlib.Core.Logic.{_⊎_, inl, inr, _↔_}
 use mathlib.Core.Path.{_≡_, refl, sym, ap, _∙_, subst}
 use lib.Dec.{leb, eqb, lit<, lit≤}
 use lib.Pow.{pow-add, pow-mono, pow-pos, shl-lt}
@@ -118,7 +120,11 @@ fields-between (suc j) t n low high =
 abbrev pub size : ℕ → ℕ
 size b = b % 2 ^ 63
 
-abbrev pub exponent : ℕ → ℕ
+-- The exponent with the sign above it, which the code tests first; and the exponent alone.
+abbrev pub head : ℕ → ℕ
+head b = b / 2 ^ 52
+
+abbrev exponent : ℕ → ℕ
 exponent b = size b / 2 ^ 52
 
 abbrev pub significand : ℕ → ℕ
@@ -130,19 +136,8 @@ size-zero b e t = omega arith
 size-fields : (b : ℕ) → size b ≡ 0 → (exponent b ≡ 0) × (b % 2 ^ 52 ≡ 0)
 size-fields b h = omega arith
 
-sign-set : (b : ℕ) → b / 2 ^ 63 ≡ 1 → 2 ^ 63 ≤ b
-sign-set b h = omega arith
-
-sign-clear : (b : ℕ) → b < 2 ^ 64 → (b / 2 ^ 63 ≡ 1 → ⊥) → b < 2 ^ 63
-sign-clear b h k = omega arith
-
--- From 1 to below 2 ^ 53, with the significand of 1 at this exponent.
-pub record Between (b one : ℕ) : Type 0 where
-  pub width : b < 2 ^ 64
-  pub sign : b / 2 ^ 63 ≡ 1 → ⊥
-  pub low : 1023 ≤ exponent b
-  pub high : exponent b ≤ 1075
-  pub is : one ≡ 2 ^ (1075 - exponent b)
+unsigned-head : (b : ℕ) → b < 2 ^ 63 → exponent b ≡ head b
+unsigned-head b h = omega arith
 
 module _ (b : ℕ) where
   abbrev read : Bool → Float
@@ -160,25 +155,46 @@ module _ (b : ℕ) where
   number-zero h =
       number-whole 0 (lit< tt) (rw (size-fields b h .0, size-fields b h .1) (units-complete (leb (2 ^ 63) b) 0 0 0 (lit< tt) (refl, λ t. refl)))
 
-  pub number-negative : (size b ≡ 0 → ⊥) → b / 2 ^ 63 ≡ 1 → cellNumber (ofBits binary64 b) ≡ noNumber
-  number-negative not-zero sign =
-      number-none (rw (le-leb (2 ^ 63) b (sign-set b sign)) (fields-negative (exponent b) (b % 2 ^ 52) (λ e t. not-zero (size-zero b e t))))
+  -- Not zero, and negative, below 1, from 2 ^ 53 on, or infinite.
+  pub number-outside : (size b ≡ 0 → ⊥) → (head b < 1023) ⊎ (1075 < head b) → cellNumber (ofBits binary64 b) ≡ noNumber
+  number-outside not-zero out =
+      let some : exponent b ≡ 0 → b % 2 ^ 52 ≡ 0 → ⊥ = λ e t. not-zero (size-zero b e t) in
+      elim (decLe (2 ^ 63) b) [
+        | yes signed ↦ number-none (rw (le-leb (2 ^ 63) b signed) (fields-negative (exponent b) (b % 2 ^ 52) some))
+        | no h ↦ number-none (unsigned-outside some (omega arith) out)
+      ]
+    where
+      unsigned-outside : (exponent b ≡ 0 → b % 2 ^ 52 ≡ 0 → ⊥) → b < 2 ^ 63 → (head b < 1023) ⊎ (1075 < head b) → NoWhole (read (leb (2 ^ 63) b))
+      unsigned-outside some h (inl low) =
+          fields-below (exponent b) (b % 2 ^ 52) some (leb (2 ^ 63) b) (mod-lt b (pow-pos 52)) (omega (arith, unsigned-head b h))
+      unsigned-outside some h (inr high) = fields-above (leb (2 ^ 63) b) (exponent b) (b % 2 ^ 52) (omega (arith, unsigned-head b h))
 
-  pub number-below : (size b ≡ 0 → ⊥) → exponent b < 1023 → cellNumber (ofBits binary64 b) ≡ noNumber
-  number-below not-zero low =
-      number-none (fields-below (exponent b) (b % 2 ^ 52) (λ e t. not-zero (size-zero b e t)) (leb (2 ^ 63) b) (mod-lt b (pow-pos 52)) low)
+  -- From 1 to below 2 ^ 53. `one` is the significand of 1 at this exponent; the digits behind the point are 0 exactly if the significand is
+  -- a multiple of it.
+  module _ (low : 1023 ≤ head b) (high : head b ≤ 1075) where
+    abbrev one : ℕ
+    one = 2 ^ (1075 - head b)
 
-  pub number-above : 1075 < exponent b → cellNumber (ofBits binary64 b) ≡ noNumber
-  number-above high = number-none (fields-above (leb (2 ^ 63) b) (exponent b) (b % 2 ^ 52) high)
-
-  module _ (one : ℕ) (h : Between b one) where
     between-whole : (n : ℕ) → IsWhole (read (leb (2 ^ 63) b)) n ↔ (significand b ≡ n * one)
-    between-whole n = rw (lt-leb (2 ^ 63) b (sign-clear b (h .width) (h .sign)), h .is) (fields-between (exponent b) (b % 2 ^ 52) n (h .low) (h .high))
+    between-whole n =
+        let below : b < 2 ^ 63 = omega arith in
+        rw (lt-leb (2 ^ 63) b below, unsigned-head b below) (fields-between (head b) (b % 2 ^ 52) n low high)
 
-    pub number-exact : significand b % one ≡ 0 → cellNumber (ofBits binary64 b) ≡ significand b / one
+    significand-small : significand b < cellBound
+    significand-small = with-leading (b % 2 ^ 52) (mod-lt b (pow-pos 52))
+
+    -- Shifted right and left again, which drops nothing at the top.
+    shifted-back : significand b / one * one % 2 ^ 64 ≡ significand b / one * one
+    shifted-back = mod-eq-of-lt (omega (arith, div-mul-le-self (significand b) one, significand-small))
+
+    pub number-exact : significand b / one * one % 2 ^ 64 ≡ significand b → cellNumber (ofBits binary64 b) ≡ significand b / one
     number-exact exact =
-        let small = lt-of-le-of-lt (div-le-self (significand b) one) (with-leading (b % 2 ^ 52) (mod-lt b (pow-pos 52))) in
-        number-whole (significand b / one) small (between-whole (significand b / one) .1 (omega (arith, div-add-mod' (significand b) one)))
+        number-whole (significand b / one) (lt-of-le-of-lt (div-le-self (significand b) one) significand-small)
+        (between-whole (significand b / one) .1 (sym exact ∙ shifted-back))
 
-    pub number-fraction : (significand b % one ≡ 0 → ⊥) → cellNumber (ofBits binary64 b) ≡ noNumber
-    number-fraction rest = number-none (λ n small w. rest (ap (λ (k : ℕ). k % one) (between-whole n .0 w) ∙ mul-mod-left n one))
+    pub number-fraction : (significand b / one * one % 2 ^ 64 ≡ significand b → ⊥) → cellNumber (ofBits binary64 b) ≡ noNumber
+    number-fraction differs =
+        number-none
+        (λ n small w.
+        let e = between-whole n .0 w in
+        differs (shifted-back ∙ ap (λ (k : ℕ). k / one * one) e ∙ ap (λ (k : ℕ). k * one) (mul-div-cancel n (pow-pos (1075 - head b))) ∙ sym e))

@@ -1,50 +1,59 @@
--- `report::number::digits` meets its contract. The loop's invariant: one less than `count`, and the digits of number / power, are the digits of
--- the number. Assumes nothing.
-use Prim.Native.Nat.{ℕ, suc, _+_, _-_, _*_, _/_, _≤_, _<_}
-use native.Mathlib.Nat.{div-one, div-div-eq-div-mul, le-div-iff-mul-le, div-lt-iff-lt-mul}
+-- `report::number::digits` meets its contract: a number from 10 ^ k to below 10 ^ (k + 1) has k + 1 digits. Assumes nothing.
+use Prim.Native.Nat.{ℕ, zero, suc, _/_, _^_, _≤_, _<_}
+use native.Mathlib.Decide.{decLt}
+use native.Mathlib.Nat.{one-le-pow, pow-suc}
 use native.Mathlib.Omega.{arith}
-use mathlib.Core.Path.{_≡_, ap, _∙_}
+use mathlib.Core.Path.{_≡_}
 use lib.ListN.{length}
+use borrow.Author.Needs.{needs}
 use Rattle.text.specs.Decimal.{decimal}
-use Rattle.text.proofs.Decimal.{decimal-length-digit, decimal-length-more, decimal-length-u64}
+use Rattle.text.proofs.Decimal.{decimal-length-digit, decimal-length-more, decimal-length-bound}
 use Rattle.report.proofs.number.digits.Statement.{statement}
 use Rattle.report.proofs.number.digits.Tie as tie
 
-abbrev Inv-loop : tie.InvT-loop
-Inv-loop number tenth power₀ count₀ power count = (0 < power) × (count + length (decimal (number / power)) ≡ length (decimal number) + 1)
+decimal-length-least : (k n : ℕ) → 10 ^ k ≤ n → suc k ≤ length (decimal n)
+decimal-length-least zero n h =
+    elim (decLt n 10) [
+      | yes one ↦ omega (arith, decimal-length-digit n one)
+      | no more ↦ omega (arith, decimal-length-more n (omega arith))
+    ]
+decimal-length-least (suc k) n h =
+    let tenth : 10 ^ k ≤ n / 10 = omega (arith, pow-suc 10 k) in
+    let rest = decimal-length-least k (n / 10) tenth in
+    omega (arith, decimal-length-more n (omega (arith, one-le-pow k 10 (omega arith), pow-suc 10 k)))
 
-abbrev μ-loop : tie.MeasureT-loop
-μ-loop number tenth power₀ count₀ power count = suc tenth - power
+module _ (k n : ℕ) (few : k < 20) (least : 10 ^ k ≤ n) (most : n < 10 ^ suc k) where
+  counted : (suc k ≡ length (decimal n)) × (suc k ≤ 20)
+  counted = omega (arith, decimal-length-least k n least, decimal-length-bound k n most)
 
--- A turn finds one digit more; behind the loop one is left.
-one-more : (number power : ℕ) → 0 < power → power ≤ number / 10 → length (decimal (number / power)) ≡ length (decimal (number / (power * 10))) + 1
-one-more number power h more =
-    decimal-length-more (number / power) (le-div-iff-mul-le h .1 (omega arith)) ∙ ap (λ n. length (decimal n) + 1) (div-div-eq-div-mul number power 10)
+returns : tie.Need-returns
+returns c = omega (arith, decimal-length-digit _ (c .if1 .taken))
 
-last-one : (number power : ℕ) → 0 < power → number / 10 < power → length (decimal (number / power)) ≡ 1
-last-one number power h less = decimal-length-digit (number / power) (div-lt-iff-lt-mul h .1 (omega arith))
+returns-2 : tie.Need-returns-2
+returns-2 c = counted 1 _ (omega arith) (c .before .if1 .left) (c .if2 .taken)
 
-loop-holds : tie.Need-loop-holds Inv-loop μ-loop
-loop-holds c = (omega arith, omega (arith, ap (λ n. length (decimal n)) (div-one (c .args .number))))
+returns-3 : tie.Need-returns-3
+returns-3 c = counted 2 _ (omega arith) (c .before .if2 .left) (c .if3 .taken)
 
-mul-power : tie.Need-mul-power Inv-loop μ-loop
-mul-power c = omega arith
+returns-4 : tie.Need-returns-4
+returns-4 c = counted 3 _ (omega arith) (c .before .if3 .left) (c .if4 .taken)
 
-add-count : tie.Need-add-count Inv-loop μ-loop
-add-count c = omega (arith, decimal-length-u64 _ (c .before .before .fits .number .fits))
+returns-5 : tie.Need-returns-5
+returns-5 c = counted 4 _ (omega arith) (c .before .if4 .left) (c .if5 .taken)
 
-loop-less : tie.Need-loop-less Inv-loop μ-loop
-loop-less c = omega arith
+returns-6 : tie.Need-returns-6
+returns-6 c = counted 5 _ (omega arith) (c .before .if5 .left) (c .if6 .taken)
 
-loop-again : tie.Need-loop-again Inv-loop μ-loop
-loop-again c = (omega arith, omega (arith, one-more _ _ (c .before .loop .inv .0) (c .loop-test .taken)))
+returns-7 : tie.Need-returns-7
+returns-7 c = counted 6 _ (omega arith) (c .before .if6 .left) (c .if7 .taken)
 
-returns : tie.Need-returns Inv-loop μ-loop
-returns c =
-    let last = last-one _ _ (c .before .loop .inv .0) (c .loop-test .left) in
-    omega (arith, decimal-length-u64 _ (c .before .before .fits .number .fits))
+digits-by-powers-requires : tie.Need-digits-by-powers-requires
+digits-by-powers-requires c κs = search needs
+
+returns-8 : tie.Need-returns-8
+returns-8 c = search needs
 
 pub digits-spec : {M : Type 1} → statement M
 digits-spec =
     tie.close
-    (tie.spec Inv-loop μ-loop loop-holds mul-power add-count loop-less loop-again returns)
+    (tie.spec returns returns-2 returns-3 returns-4 returns-5 returns-6 returns-7 digits-by-powers-requires returns-8)
