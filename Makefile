@@ -12,6 +12,9 @@ EXPORTS = { global: wallcheck_line; wallcheck_line_into; wallcheck_row; wallchec
 
 .PHONY: lib callers bench install test clean
 
+dist/libwallcheck.so:
+	@$(MAKE) --silent lib
+
 lib:
 	@mkdir -p dist $(BUILD)
 	@rt staticlib wallcheck >$(BUILD)/staticlib.log 2>&1 || { cat $(BUILD)/staticlib.log; exit 1; }
@@ -21,7 +24,7 @@ lib:
 		-Wl,--whole-archive dist/libwallcheck.a -Wl,--no-whole-archive -o dist/libwallcheck.so
 	@sed -e 's,@PREFIX@,$(PREFIX),' -e 's,@VERSION@,$(VERSION),' wallcheck.pc.in >dist/wallcheck.pc
 
-callers: lib
+callers: dist/libwallcheck.so
 	@$(CC) -std=c11 -O2 -Wall -Wextra -Werror -Iinclude callers/c/acceptance.c dist/libwallcheck.a -o $(BUILD)/acceptance
 	@$(BUILD)/acceptance callers/cases.txt callers/rows.txt
 	@$(CARGO_ENV) cargo run --quiet --release --offline --manifest-path callers/rust/Cargo.toml --bin acceptance
