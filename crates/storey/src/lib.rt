@@ -1,5 +1,5 @@
 // The storey wall of document 01: its record, its ranges, limits and factors, and its check.
-ghost use mathlib.Core.Bool.{true};
+ghost use mathlib.Core.Bool.{true, cond};
 ghost use mathlib.Core.List.{[], _∷_};
 ghost use mathlib.Core.Path.{_≡_};
 ghost use lib.Dec.{ltb};
@@ -440,20 +440,16 @@ impl StoreyWall {
                 & (StoreyWall::BEARING_PARTS * self.bearing < self.thickness))
     }
 
-    // The number of the first of refusals 3 to 12 whose test holds, or 0.
-    fn first_limit(
+    // The first of refusals 3 to 7 whose test holds, else `later`.
+    fn first_of_3_to_7(
         thin: bool,
         small: bool,
         unfit: bool,
         high: bool,
         loaded: bool,
-        tall: bool,
-        long: bool,
-        shallow: bool,
-        weak: bool,
-        slender: bool,
+        later: u64,
     ) -> u64
-        ensures { λ number. ⌜ number ≡ firstOf ((3, thin) ∷ (4, small) ∷ (5, unfit) ∷ (6, high) ∷ (7, loaded) ∷ (8, tall) ∷ (9, long) ∷ (10, shallow) ∷ (11, weak) ∷ (12, slender) ∷ []) ⌝ }
+        ensures { λ number. ⌜ number ≡ cond thin 3 (cond small 4 (cond unfit 5 (cond high 6 (cond loaded 7 later)))) ⌝ }
     {
         if thin {
             return 3;
@@ -470,6 +466,13 @@ impl StoreyWall {
         if loaded {
             return 7;
         }
+        later
+    }
+
+    // The first of refusals 8 to 12 whose test holds, else 0.
+    fn first_of_8_to_12(tall: bool, long: bool, shallow: bool, weak: bool, slender: bool) -> u64
+        ensures { λ number. ⌜ number ≡ cond tall 8 (cond long 9 (cond shallow 10 (cond weak 11 (cond slender 12 0)))) ⌝ }
+    {
         if tall {
             return 8;
         }
@@ -499,17 +502,20 @@ impl StoreyWall {
         let span = self.span;
         let support = self.support;
         let strength = self.strength;
-        StoreyWall::first_limit(
-            thickness < StoreyWall::LEAST_THICKNESS,
-            area < StoreyWall::LEAST_AREA,
-            self.unfit_for_use(),
-            self.too_high(),
-            self.floor_load_too_great(),
+        let later = StoreyWall::first_of_8_to_12(
             StoreyWall::GREATEST_BUILDING_HEIGHT < building,
             (StoreyWall::GREATEST_UNCENTRED_SPAN < span) & (support != StoreyWall::CENTRED_SUPPORT),
             self.bearing_too_shallow(),
             strength < StoreyWall::LEAST_STRENGTH,
             StoreyWall::GREATEST_SLENDERNESS * thickness < length,
+        );
+        StoreyWall::first_of_3_to_7(
+            thickness < StoreyWall::LEAST_THICKNESS,
+            area < StoreyWall::LEAST_AREA,
+            self.unfit_for_use(),
+            self.too_high(),
+            self.floor_load_too_great(),
+            later,
         )
     }
 }
