@@ -1,12 +1,13 @@
 -- Laws of the resistance: that its products fit, that the code's quotients are the definition's, and how it follows the record.
 use Prim.Native.Nat.{ℕ, _-_, _*_, _/_, _≤_, _<_, min}
-use mathlib.Core.Bool.{true, false, _||_}
+use mathlib.Core.Bool.{Bool, true, false, _||_}
 use mathlib.Core.Path.{_≡_, _∙_, refl, sym, ap, ap₂}
 use native.Mathlib.Omega.{arith}
 use native.Mathlib.Nat.{mul-le-mul, mul-le-mul-right, mul-one, sub-eq-zero-of-le, zero-div, mul-zero}
 use lib.Dec.{eqb, ltb}
 use Rattle.basis.specs.Fraction.{Fraction, _÷_, whole, _≼_, _≈_, times, minus, smaller, floor}
-use Rattle.basis.proofs.Choice.{cond-cases}
+use borrow.Author.Tests.{ltb-true, ltb-false}
+use Rattle.basis.proofs.Choice.{cond-cases, or-left, or-right}
 use Rattle.basis.proofs.Fraction.{
   ≼-refl,
   ≼-trans,
@@ -140,24 +141,24 @@ reduced-same fifths f g same pf pg =
     floor-equal (times (fifths ÷ 5) g) (times f g) (times-den (fifths ÷ 5) g (omega arith) pg) (times-den f g pf pg)
     (times-same (fifths ÷ 5) g f g (same .value) refl)
 
--- The reported resistance from the two rounded parts of the code: at mid-height alone, or the smaller of both.
+-- The reported resistance from the two rounded parts of the code: the one at mid-height for support 1, else the smaller of both.
 module _ (w : StoreyWall) (fifths : ℕ) (least : 1 ≤ w .thickness)
     (same : Fifths fifths (reduction (w .thickness) (w .length) (w .bonded))) where
-  pub resistance-middle : eqb (w .support) 1 ≡ true →
+  middle-alone : eqb (w .support) 1 ≡ true →
       floor (times (fifths ÷ 5) (atMidHeight (w .thickness) (w .bearing) (w .strength) (whole (bucklingLength w)))) ≡ resistance w
   unfolding resistance exactResistance unreduced
-  resistance-middle intermediate =
+  middle-alone intermediate =
       let share = reduction (w .thickness) (w .length) (w .bonded) in
       let middle = atMidHeight (w .thickness) (w .bearing) (w .strength) (whole (bucklingLength w)) in
       rw intermediate
       (reduced-same fifths share middle same (reduction-den (w .thickness) (w .length) (w .bonded))
       (mid-height-den (w .thickness) (w .bearing) (w .strength) (whole (bucklingLength w)) least (omega arith)))
 
-  pub resistance-smaller : eqb (w .support) 1 ≡ false →
+  smaller-of-both : eqb (w .support) 1 ≡ false →
       min (floor (times (fifths ÷ 5) (atMidHeight (w .thickness) (w .bearing) (w .strength) (whole (bucklingLength w)))))
       (floor (times (fifths ÷ 5) (atSupport (w .support) (w .span) (w .bearing) (w .strength)))) ≡ resistance w
   unfolding resistance exactResistance unreduced
-  resistance-smaller further =
+  smaller-of-both further =
       let share = reduction (w .thickness) (w .length) (w .bonded) in
       let middle = atMidHeight (w .thickness) (w .bearing) (w .strength) (whole (bucklingLength w)) in
       let end = atSupport (w .support) (w .span) (w .bearing) (w .strength) in
@@ -167,6 +168,20 @@ module _ (w : StoreyWall) (fifths : ℕ) (least : 1 ≤ w .thickness)
       rw further
       (ap₂ min (reduced-same fifths share middle same ps pm) (reduced-same fifths share end same ps pe)
       ∙ sym (floor-times-smaller share middle end ps pm pe))
+
+  module _ (m e : ℕ)
+      (middle : m ≡ floor (times (fifths ÷ 5) (atMidHeight (w .thickness) (w .bearing) (w .strength) (whole (bucklingLength w)))))
+      (end : e ≡ floor (times (fifths ÷ 5) (atSupport (w .support) (w .span) (w .bearing) (w .strength)))) where
+    pub resistance-middle : (eqb (w .support) 1 || ltb m e) ≡ true → m ≡ resistance w
+    resistance-middle chosen =
+        cond-cases {A = Bool} (λ _. m ≡ resistance w) (eqb (w .support) 1) {x = true} {y = true}
+        (λ alone. middle ∙ middle-alone alone)
+        (λ further. omega (arith, smaller-of-both further, ltb-true m e (rw further at chosen)))
+
+    pub resistance-end : (eqb (w .support) 1 || ltb m e) ≡ false → e ≡ resistance w
+    resistance-end chosen =
+        let further = or-left (eqb (w .support) 1) (ltb m e) chosen in
+        omega (arith, smaller-of-both further, ltb-false m e (or-right (eqb (w .support) 1) (ltb m e) chosen))
 
 -- Bound: the strength and the bearing alone, without the slenderness.
 

@@ -3,7 +3,7 @@ ghost use mathlib.Core.Bool.{true, cond};
 ghost use mathlib.Core.List.{[], _∷_};
 ghost use mathlib.Core.Path.{_≡_};
 ghost use lib.Dec.{ltb};
-ghost use Prim.Native.Nat.{_+_, _*_};
+ghost use Prim.Native.Nat.{_+_, _-_, _*_};
 ghost use Rattle.basis.specs.Fraction.{_÷_, whole, ceil, floor, times};
 ghost use Rattle.basis.specs.Refusal.{firstOf};
 ghost use Rattle.storey.specs.Range.{inRange};
@@ -156,13 +156,12 @@ impl StoreyWall {
     fn factor(thickness: u64, bearing: u64) -> u64
         ensures { λ twentieths. ⌜ twentieths ≡ factor thickness bearing ⌝ }
     {
-        if StoreyWall::bearing_suffices(thickness, bearing) {
-            if thickness <= StoreyWall::THIN_FACTOR_THICKNESS {
-                return StoreyWall::THIN_FACTOR;
-            }
-            if thickness <= StoreyWall::MEDIUM_FACTOR_THICKNESS {
-                return StoreyWall::MEDIUM_FACTOR;
-            }
+        let suffices = StoreyWall::bearing_suffices(thickness, bearing);
+        if suffices & (thickness <= StoreyWall::THIN_FACTOR_THICKNESS) {
+            return StoreyWall::THIN_FACTOR;
+        }
+        if suffices & (thickness <= StoreyWall::MEDIUM_FACTOR_THICKNESS) {
+            return StoreyWall::MEDIUM_FACTOR;
         }
         StoreyWall::WHOLE_FACTOR
     }
@@ -267,18 +266,23 @@ impl StoreyWall {
         StoreyWall::WHOLE_FIFTHS
     }
 
+    // What a span leaves of SPAN_SUPPORT, not below 0.
+    fn span_support(span: u64) -> u64
+        ensures { λ left. ⌜ left ≡ 9600 - span ⌝ }
+    {
+        if StoreyWall::SPAN_SUPPORT < span {
+            return 0;
+        }
+        StoreyWall::SPAN_SUPPORT - span
+    }
+
     // m, for supports 2 to 4.
     fn support_factor(support: u64, span: u64) -> u64
         ensures { λ m. ⌜ SupportFactor m (supportFactor support span) ⌝ }
     {
-        if support == StoreyWall::UNDER_FLOOR {
-            if span <= StoreyWall::SPAN_SUPPORT - StoreyWall::FULL_SUPPORT {
-                return StoreyWall::FULL_SUPPORT;
-            }
-            if span <= StoreyWall::SPAN_SUPPORT {
-                return StoreyWall::SPAN_SUPPORT - span;
-            }
-            return 0;
+        let left = StoreyWall::span_support(span);
+        if (support == StoreyWall::UNDER_FLOOR) & (left < StoreyWall::FULL_SUPPORT) {
+            return left;
         }
         if support == StoreyWall::UNDER_ROOF {
             return StoreyWall::ROOF_SUPPORT;
@@ -316,15 +320,15 @@ impl StoreyWall {
         requires { ⌜ Measured self length ⌝ }
         ensures { λ rounded. ⌜ rounded ≡ resistance self ⌝ }
     {
+        let thickness = self.thickness;
+        let support = self.support;
+        let span = self.span;
         let bearing = self.bearing;
         let strength = self.strength;
         let fifths = self.reduction_fifths();
-        let middle = StoreyWall::at_mid_height(fifths, self.thickness, bearing, strength, length);
-        if self.support == StoreyWall::INTERMEDIATE_SUPPORT {
-            return middle;
-        }
-        let end = StoreyWall::at_support(fifths, self.support, self.span, bearing, strength);
-        if middle < end {
+        let middle = StoreyWall::at_mid_height(fifths, thickness, bearing, strength, length);
+        let end = StoreyWall::at_support(fifths, support, span, bearing, strength);
+        if (support == StoreyWall::INTERMEDIATE_SUPPORT) | (middle < end) {
             return middle;
         }
         end

@@ -1,11 +1,9 @@
 -- `StoreyWall::resistance` meets its contract: the smaller of two rounded resistances is the rounded smaller one.
 use borrow.Author.Needs.{needs}
 use native.Mathlib.Omega.{arith}
-use mathlib.Core.Path.{_∙_}
-use borrow.Author.Tests.{eq-eqb, ne-eqb}
 use Rattle.storey.proofs.Range.{range-bounds}
 use Rattle.storey.proofs.Limits.{length-most}
-use Rattle.storey.proofs.Resistance.{resistance-middle, resistance-smaller}
+use Rattle.storey.proofs.Resistance.{resistance-middle, resistance-end}
 use Rattle.storey.proofs.StoreyWall.resistance.Statement.{statement}
 use Rattle.storey.proofs.StoreyWall.resistance.Tie as tie
 
@@ -24,45 +22,29 @@ at-mid-height-requires c κs =
       length-most = rw (c .before .pre .length) (length-most (c .before .args .self) (c .before .pre .in-range) (c .before .pre .within-limits));
     }
 
-returns : tie.Need-returns
-returns c =
-    c .before .before .at-mid-height .ensures
-    ∙ rw (c .before .before .before .before .pre .length)
-    (resistance-middle (c .before .before .before .before .args .self) (c .before .before .before .reduction-fifths .result) (range-bounds (c .before .before .before .before .args .self) (c .before .before .before .before .pre .in-range) .thickness-least) (c .before .before .before .reduction-fifths .ensures)
-    (eq-eqb _ _ (c .if1 .taken)))
-
 at-support-requires : tie.Need-at-support-requires
 at-support-requires c κs =
-    let bounds = range-bounds (c .before .before .before .before .args .self) (c .before .before .before .before .pre .in-range) in
+    let bounds = range-bounds (c .before .before .args .self) (c .before .before .pre .in-range) in
     record {
-      fifths-most = c .before .before .before .reduction-fifths .ensures .most;
+      fifths-most = c .before .reduction-fifths .ensures .most;
       bearing-most = omega (arith, bounds .bearing-most, bounds .thickness-most);
       strength-most = bounds .strength-most;
     }
 
+returns : tie.Need-returns
+returns c =
+    let start = c .before .before .before .before in
+    let wall = start .args .self in
+    resistance-middle wall _ (range-bounds wall (start .pre .in-range) .thickness-least) (c .before .before .before .reduction-fifths .ensures)
+    _ _ (rw (start .pre .length) at (c .before .before .at-mid-height .ensures)) (c .before .at-support .ensures) (c .if1 .taken)
+
 returns-2 : tie.Need-returns-2
 returns-2 c =
-    let middle = rw (c .before .before .before .before .before .before .pre .length) at (c .before .before .before .before .at-mid-height .ensures) in
-    let smaller =
-    resistance-smaller (c .before .before .before .before .before .before .args .self) (c .before .before .before .before .before .reduction-fifths .result) (range-bounds (c .before .before .before .before .before .before .args .self) (c .before .before .before .before .before .before .pre .in-range) .thickness-least) (c .before .before .before .before .before .reduction-fifths .ensures)
-    (ne-eqb _ _ (c .before .before .if1 .left)) in
-    omega (arith, c .before .at-support .ensures)
-
-returns-3 : tie.Need-returns-3
-returns-3 c =
-    let middle = rw (c .before .before .before .before .before .before .pre .length) at (c .before .before .before .before .at-mid-height .ensures) in
-    let smaller =
-    resistance-smaller (c .before .before .before .before .before .before .args .self) (c .before .before .before .before .before .reduction-fifths .result) (range-bounds (c .before .before .before .before .before .before .args .self) (c .before .before .before .before .before .before .pre .in-range) .thickness-least) (c .before .before .before .before .before .reduction-fifths .ensures)
-    (ne-eqb _ _ (c .before .before .if1 .left)) in
-    omega (arith, c .before .at-support .ensures)
+    let start = c .before .before .before .before in
+    let wall = start .args .self in
+    resistance-end wall _ (range-bounds wall (start .pre .in-range) .thickness-least) (c .before .before .before .reduction-fifths .ensures)
+    _ _ (rw (start .pre .length) at (c .before .before .at-mid-height .ensures)) (c .before .at-support .ensures) (c .if1 .left)
 
 pub resistance-spec : {M : Type 1} → statement M
 resistance-spec =
-    tie.close
-    (tie.spec
-    reduction-fifths-requires
-    at-mid-height-requires
-    returns
-    at-support-requires
-    returns-2
-    returns-3)
+    tie.close (tie.spec reduction-fifths-requires at-mid-height-requires at-support-requires returns returns-2)
