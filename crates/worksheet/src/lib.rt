@@ -3,6 +3,7 @@ mod cell;
 
 use storey::StoreyWall;
 ghost use mathlib.Core.Path.{_≡_};
+ghost use Rattle.worksheet.specs.Cell.{cellNumber};
 ghost use Rattle.worksheet.specs.Row.{heldSides, distanceEntry, entryNumber, rowWall};
 
 // How the wall is held: on two sides, on three with the distance of the free edge, or on four with the spacing of the
@@ -45,15 +46,22 @@ impl Holding {
         }
     }
 
+    // The cell of c; 0 stands for it on two sides, whatever a caller has there.
+    fn distance_cell(self) -> f64
+        ensures { λ cell. ⌜ cellNumber cell ≡ entryNumber (distanceEntry self) ⌝ }
+    {
+        match self {
+            Holding::TwoSides => 0.0,
+            Holding::ThreeSides(edge) => edge,
+            Holding::FourSides(spacing) => spacing,
+        }
+    }
+
     // c
     fn distance(self) -> u64
         ensures { λ distance. ⌜ distance ≡ entryNumber (distanceEntry self) ⌝ }
     {
-        match self {
-            Holding::TwoSides => 0,
-            Holding::ThreeSides(edge) => cell::number(edge),
-            Holding::FourSides(spacing) => cell::number(spacing),
-        }
+        cell::number(self.distance_cell())
     }
 }
 
