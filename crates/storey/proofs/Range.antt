@@ -17,12 +17,14 @@ pub in-range-chain : (w : StoreyWall) → chain true (ranges w) ≡ inRange w
 unfolding inRange
 in-range-chain w = chain-every true (ranges w)
 
--- The bounds that sums and products of the check rely on.
+-- The bounds that sums and products of the check rely on, and the number of held sides.
 pub record Bounds (w : StoreyWall) : Type 0 where
   pub thickness-least : 1 ≤ w .thickness
   pub thickness-most : w .thickness ≤ 1000
   pub height-most : w .height ≤ 20000
   pub length-most : w .length ≤ 20000
+  pub held-least : 2 ≤ w .held
+  pub held-most : w .held ≤ 4
   pub bearing-least : 1 ≤ w .bearing
   pub bearing-most : w .bearing ≤ w .thickness
   pub strength-most : w .strength ≤ 5000
@@ -38,6 +40,8 @@ range-bounds w passed =
       thickness-most = within-bounds 1 1000 (w .thickness) (all .1 .0) .1;
       height-most = within-bounds 1 20000 (w .height) (all .1 .1 .0) .1;
       length-most = within-bounds 1 20000 (w .length) (all .1 .1 .1 .0) .1;
+      held-least = within-bounds 2 4 (w .held) (all .1 .1 .1 .1 .0) .0;
+      held-most = within-bounds 2 4 (w .held) (all .1 .1 .1 .1 .0) .1;
       bearing-least = within-bounds 1 (w .thickness) (w .bearing) (all .1 .1 .1 .1 .1 .1 .1 .1 .0) .0;
       bearing-most = within-bounds 1 (w .thickness) (w .bearing) (all .1 .1 .1 .1 .1 .1 .1 .1 .0) .1;
       strength-most = within-bounds 1 5000 (w .strength) (all .1 .1 .1 .1 .1 .1 .1 .1 .1 .0) .1;

@@ -1,6 +1,8 @@
 -- What the C interface answers for a row, whose holding is a number of sides and a distance.
+use Prim.Native.Nat.{ℕ}
 use mathlib.Core.Bool.{cond}
 use lib.Dec.{eqb}
+use lib.Ieee.{Float}
 use Rattle.basis.specs.declared.CheckResult.{CheckResult}
 use Rattle.basis.specs.Result.{refusedWith}
 use Rattle.worksheet.specs.declared.Holding.{Holding}
@@ -29,6 +31,10 @@ cellsRow cells holding =
       building = cells .building;
       storeys = cells .storeys;
     }
+
+-- The holding of a number of sides: three sides, four sides, else two.
+abbrev pub cellsHolding : ℕ → Float → Holding
+cellsHolding held distance = cond (eqb held 3) (ThreeSides distance) (cond (eqb held 4) (FourSides distance) TwoSides)
 
 -- A number of sides other than 2, 3 and 4 is out of range, refusal 2; on two sides the distance is not looked at.
 unfoldable pub cellsResult : Cells → CheckResult

@@ -1,12 +1,13 @@
 // The C interface of include/wallcheck.h. A slice is a pointer and a length there.
 ghost use mathlib.Core.Path.{_≡_};
+ghost use Rattle.walls.specs.declared.Wall.the-variants.{Storey};
+ghost use Rattle.walls.specs.Check.{check};
 ghost use Rattle.wallcheck.specs.Entry.{lineResult, lent};
-ghost use Rattle.wallcheck.specs.Interface.{cellsRow, cellsResult};
+ghost use Rattle.wallcheck.specs.Interface.{cellsHolding, cellsRow, cellsResult};
 use basis::CheckResult;
+use storey::StoreyWall;
 use worksheet::Holding;
 use worksheet::Row;
-
-const TWO_SIDES: u64 = 2;
 
 const THREE_SIDES: u64 = 3;
 
@@ -56,6 +57,30 @@ fn row_of(cells: Cells, holding: Holding) -> Row
     }
 }
 
+// The holding of a number of sides. A number that none has is taken for two sides here.
+fn holding_of(held: u64, distance: f64) -> Holding
+    ensures { λ holding. ⌜ holding ≡ cellsHolding held distance ⌝ }
+{
+    if held == THREE_SIDES {
+        return Holding::ThreeSides(distance);
+    }
+    if held == FOUR_SIDES {
+        return Holding::FourSides(distance);
+    }
+    Holding::TwoSides
+}
+
+// The record of the cells. It keeps the number of sides as it is, so that one that no holding has is out of range there.
+fn wall_of(cells: Cells) -> StoreyWall
+    ensures { λ wall. ⌜ check (Storey wall) ≡ cellsResult cells ⌝ }
+{
+    let held = cells.held;
+    let distance = cells.distance;
+    let mut wall = row_of(cells, holding_of(held, distance)).wall();
+    wall.held = held;
+    wall
+}
+
 #[no_mangle]
 pub extern "C" fn wallcheck_line(line: &[u8]) -> CheckResult
     ensures { λ result. ⌜ result ≡ lineResult (now (line .entry)) ⌝ }
@@ -74,23 +99,17 @@ pub extern "C" fn wallcheck_line_into(line: &[u8], out: &mut [u8]) -> CheckResul
 pub extern "C" fn wallcheck_row(cells: Cells) -> CheckResult
     ensures { λ result. ⌜ result ≡ cellsResult cells ⌝ }
 {
-    let held = cells.held;
-    let distance = cells.distance;
-    if held == TWO_SIDES {
-        return crate::check_row(row_of(cells, Holding::TwoSides));
-    }
-    if held == THREE_SIDES {
-        return crate::check_row(row_of(cells, Holding::ThreeSides(distance)));
-    }
-    if held == FOUR_SIDES {
-        return crate::check_row(row_of(cells, Holding::FourSides(distance)));
-    }
-    CheckResult::refused(2)
+    wall_of(cells).check()
 }
 
 #[no_mangle]
 pub extern "C" fn wallcheck_row_into(cells: Cells, out: &mut [u8]) -> CheckResult
     ensures { λ result. ⌜ record { result = result; buffer = now (out .exit) } ≡ lent (now (out .entry)) (cellsResult cells) ⌝ }
 {
-    crate::lend(wallcheck_row(cells), out)
+    let mut result = CheckResult::refused(20);
+    if crate::LEAST_BUFFER <= out.len() {
+        result = wall_of(cells).check();
+        report::write(result, out);
+    }
+    result
 }

@@ -2,15 +2,13 @@
 mod interface;
 
 ghost use mathlib.Core.Path.{_≡_};
-ghost use Rattle.basis.specs.Result.{Below};
 ghost use Rattle.wallcheck.specs.Entry.{lineResult, rowResult, lent};
 use basis::CheckResult;
 use line::Reading;
-use walls::Wall;
 use worksheet::Row;
 
-// The least length of a lent buffer; the text of every result fits it.
-const LEAST_BUFFER: usize = 64;
+// The least length of a lent buffer; the text of every result fits it. A shorter one is refusal 20, before all others.
+pub(crate) const LEAST_BUFFER: usize = 64;
 
 // The result of a line, of any bytes.
 pub fn check_line(line: &[u8]) -> CheckResult
@@ -26,31 +24,29 @@ pub fn check_line(line: &[u8]) -> CheckResult
 pub fn check_row(row: Row) -> CheckResult
     ensures { λ result. ⌜ result ≡ rowResult row ⌝ }
 {
-    Wall::Storey(row.wall()).check()
-}
-
-// Refusal 20 for a buffer that is too short, else the result, written to `out` as text.
-fn lend(result: CheckResult, out: &mut [u8]) -> CheckResult
-    requires { ⌜ Below 1000000000 result ⌝ }
-    ensures { λ handed. ⌜ record { result = handed; buffer = now (out .exit) } ≡ lent (now (out .entry)) result ⌝ }
-{
-    if out.len() < LEAST_BUFFER {
-        return CheckResult::refused(20);
-    }
-    report::write(result, out);
-    result
+    row.wall().check()
 }
 
 // The result of a line, also written to `out` as text.
 pub fn check_line_into(line: &[u8], out: &mut [u8]) -> CheckResult
     ensures { λ result. ⌜ record { result = result; buffer = now (out .exit) } ≡ lent (now (out .entry)) (lineResult (now (line .entry))) ⌝ }
 {
-    lend(check_line(line), out)
+    let mut result = CheckResult::refused(20);
+    if LEAST_BUFFER <= out.len() {
+        result = check_line(line);
+        report::write(result, out);
+    }
+    result
 }
 
 // The result of a worksheet row, also written to `out` as text.
 pub fn check_row_into(row: Row, out: &mut [u8]) -> CheckResult
     ensures { λ result. ⌜ record { result = result; buffer = now (out .exit) } ≡ lent (now (out .entry)) (rowResult row) ⌝ }
 {
-    lend(check_row(row), out)
+    let mut result = CheckResult::refused(20);
+    if LEAST_BUFFER <= out.len() {
+        result = check_row(row);
+        report::write(result, out);
+    }
+    result
 }
