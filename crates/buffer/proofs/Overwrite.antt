@@ -105,14 +105,10 @@ overwrite-byte l at byte =
       | no h ↦ overwrite-beyond l at (byte ∷ []) (omega arith) ∙ sym (set-out l at byte (omega arith))
     ]
 
--- A byte put first, and then the text that ends before it; a text put first, and then the byte before it.
+-- A byte put first, and then the text that ends before it.
 pub overwrite-byte-behind :
     (l : List ℕ) (at : ℕ) (t : List ℕ) (i byte : ℕ) → at + length t ≡ i → i < length l → overwrite (set l i byte) at t ≡ overwrite l at (t ++ byte ∷ [])
 overwrite-byte-behind l at t i byte e h = rw (← e, ← overwrite-byte) (overwrite-joins-before l at t (byte ∷ []) (omega arith))
-
-pub overwrite-byte-before :
-    (l : List ℕ) (at : ℕ) (t : List ℕ) (i byte : ℕ) → i + 1 ≡ at → at + length t ≤ length l → set (overwrite l at t) i byte ≡ overwrite l i (byte ∷ t)
-overwrite-byte-before l at t i byte e h = rw (← e, ← overwrite-byte) (overwrite-joins-before l i (byte ∷ []) t (omega arith))
 
 -- A turn of a loop that puts a text down front to back: with the text's first i bytes in place it puts the next one.
 pub overwrite-more :

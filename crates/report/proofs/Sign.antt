@@ -1,13 +1,12 @@
 -- Signed numbers: their text by their sign, and -1 - z, by which the magnitude of a negative i64 is computed. The machine holds the bits of
 -- a number and reads it back from them, `toZ w64 (ofZ w64 z)`; `toZ-ofZ` removes that.
-use Prim.Native.Nat.{ℕ, suc, _+_, _≤_, _<_, _^_}
+use Prim.Native.Nat.{ℕ, suc, _+_, _<_, _^_}
 use native.Mathlib.Omega.{arith}
 use mathlib.Core.Bool.{true, false}
 use mathlib.Core.List.{_∷_}
 use mathlib.Core.Path.{_≡_, refl, ap, _∙_}
 use lib.Dec.{T}
 use lib.IntN.{ℤ, pos, negsuc, _-ℤ_, natAbs}
-use lib.ListN.{length}
 use lib.Signed.{mag, ltZ, nonNeg, natAbs-le}
 use mir.Syntax.{w64}
 use mir.Val.{SFits, toZ, ofZ}
@@ -24,11 +23,6 @@ below-cases P all (negsuc n) h = all n
 above-cases : (P : ℤ → Type 0) → ((n : ℕ) → P (pos n)) → (z : ℤ) → ltZ z (pos 0) ≡ false → P z
 above-cases P all (pos n) h = all n
 above-cases P all (negsuc n) h = let none : _≡_ {A = ℕ} 0 1 = cc in absurd (omega arith)
-
-pub signed-length-least : (z : ℤ) → length (decimal (natAbs z)) ≤ length (signed z)
-unfolding signed
-signed-length-least (pos n) = omega arith
-signed-length-least (negsuc n) = omega arith
 
 -- ── as the machine reads it ──
 module _ {z : ℤ} (fits : SFits w64 z) where

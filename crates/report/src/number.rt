@@ -1,35 +1,26 @@
 // Unsigned numbers as decimal text.
 ghost use mathlib.Core.Path.{_≡_};
 ghost use mathlib.Core.List.{[], _∷_, _++_};
-ghost use Prim.Native.Nat.{_+_, _≤_, _<_};
+ghost use Prim.Native.Nat.{_+_, _/_, _%_, _≤_, _<_};
 ghost use lib.ListN.{length};
 ghost use Rattle.buffer.specs.Overwrite.{overwrite};
 ghost use Rattle.text.specs.Decimal.{decimal};
 
-// How many digits a number has. A few comparisons are faster than a loop; more than seven digits are rare.
+// How many digits a number has. A few comparisons are faster than a loop; more than eight digits are rare.
 pub(crate) fn digits(number: u64) -> usize
     ensures { λ count. ⌜ (count ≡ length (decimal number)) × (count ≤ 20) ⌝ }
 {
-    if number < 10 {
-        return 1;
-    }
-    if number < 100 {
-        return 2;
-    }
-    if number < 1_000 {
-        return 3;
-    }
     if number < 10_000 {
-        return 4;
-    }
-    if number < 100_000 {
-        return 5;
+        if number < 100 {
+            return if number < 10 { 1 } else { 2 };
+        }
+        return if number < 1_000 { 3 } else { 4 };
     }
     if number < 1_000_000 {
-        return 6;
+        return if number < 100_000 { 5 } else { 6 };
     }
-    if number < 10_000_000 {
-        return 7;
+    if number < 100_000_000 {
+        return if number < 10_000_000 { 7 } else { 8 };
     }
     digits_by_powers(number)
 }
@@ -49,21 +40,34 @@ fn digits_by_powers(number: u64) -> usize
     count
 }
 
-// Puts the number and the separator behind it over the bytes that end before byte `end`, from the last to the first, and returns where they
-// begin.
-pub(crate) fn put_before(out: &mut [u8], end: usize, number: u64, separator: u8) -> usize
-    requires { ⌜ (length (decimal number) < end) × (end ≤ length (now out)) ⌝ }
-    ensures { λ at. ⌜ (at + (length (decimal number) + 1) ≡ end) × (now (out .exit) ≡ overwrite (now (out .entry)) at (decimal number ++ separator ∷ [])) ⌝ }
+// Puts the number and the separator behind it over the bytes from byte `at` on, and returns the place behind them. The digits are put from the
+// last to the first, two in a turn, since a division gives a number's last digits first.
+pub(crate) fn put(out: &mut [u8], at: usize, number: u64, separator: u8) -> usize
+    requires { ⌜ at + length (decimal number) < length (now out) ⌝ }
+    ensures { λ next. ⌜ (next ≡ at + (length (decimal number) + 1)) × (now (out .exit) ≡ overwrite (now (out .entry)) at (decimal number ++ separator ∷ [])) ⌝ }
 {
-    let mut at = end - 1;
-    out[at] = separator;
+    let end = at + digits(number);
+    out[end] = separator;
+    let mut place = end;
     let mut rest = number;
-    while rest >= 10 {
-        at -= 1;
-        out[at] = 48 + (rest % 10) as u8;
-        rest /= 10;
+    while rest >= 100 {
+        place -= 2;
+        put_pair(out, place, rest % 100);
+        rest /= 100;
     }
-    at -= 1;
-    out[at] = 48 + rest as u8;
-    at
+    if rest >= 10 {
+        put_pair(out, at, rest);
+    } else {
+        out[at] = 48 + rest as u8;
+    }
+    end + 1
+}
+
+// Puts the two digits of a number below 100.
+fn put_pair(out: &mut [u8], at: usize, number: u64)
+    requires { ⌜ (number < 100) × (at + 2 ≤ length (now out)) ⌝ }
+    ensures { λ _. ⌜ now (out .exit) ≡ overwrite (now (out .entry)) at ((48 + number / 10) ∷ (48 + number % 10) ∷ []) ⌝ }
+{
+    out[at] = 48 + (number / 10) as u8;
+    out[at + 1] = 48 + (number % 10) as u8;
 }

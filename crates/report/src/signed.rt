@@ -18,22 +18,21 @@ pub(crate) fn length(number: i64) -> usize
     digits
 }
 
-// As the unsigned `number::put_before`.
-pub(crate) fn put_before(out: &mut [u8], end: usize, number: i64, separator: u8) -> usize
-    requires { ⌜ (length (signed number) < end) × (end ≤ length (now out)) ⌝ }
-    ensures { λ at. ⌜ (at + (length (signed number) + 1) ≡ end) × (now (out .exit) ≡ overwrite (now (out .entry)) at (signed number ++ separator ∷ [])) ⌝ }
+// As the unsigned `number::put`.
+pub(crate) fn put(out: &mut [u8], at: usize, number: i64, separator: u8) -> usize
+    requires { ⌜ at + length (signed number) < length (now out) ⌝ }
+    ensures { λ next. ⌜ (next ≡ at + (length (signed number) + 1)) × (now (out .exit) ≡ overwrite (now (out .entry)) at (signed number ++ separator ∷ [])) ⌝ }
 {
-    let at = number::put_before(out, end, magnitude(number), separator);
+    let mut first = at;
     if number < 0 {
-        let first = at - 1;
         out[first] = b'-';
-        return first;
+        first += 1;
     }
-    at
+    number::put(out, first, magnitude(number), separator)
 }
 
 // The number without its sign. -1 - number is one less than the magnitude of a negative number and overflows for none, the lowest included.
-fn magnitude(number: i64) -> u64
+pub(crate) fn magnitude(number: i64) -> u64
     ensures { λ size. ⌜ size ≡ natAbs number ⌝ }
 {
     if number < 0 {

@@ -27,33 +27,36 @@ module _ (k n : ℕ) (few : k < 20) (least : 10 ^ k ≤ n) (most : n < 10 ^ suc 
   counted = omega (arith, decimal-length-least k n least, decimal-length-bound k n most)
 
 returns : tie.Need-returns
-returns c = omega (arith, decimal-length-digit _ (c .if1 .taken))
+returns c = omega (arith, decimal-length-digit _ (c .if3 .taken))
 
 returns-2 : tie.Need-returns-2
-returns-2 c = counted 1 _ (omega arith) (c .before .if1 .left) (c .if2 .taken)
+returns-2 c = counted 1 _ (omega arith) (c .if3 .left) (c .before .if2 .taken)
 
 returns-3 : tie.Need-returns-3
-returns-3 c = counted 2 _ (omega arith) (c .before .if2 .left) (c .if3 .taken)
+returns-3 c = counted 2 _ (omega arith) (c .before .if2 .left) (c .if4 .taken)
 
 returns-4 : tie.Need-returns-4
-returns-4 c = counted 3 _ (omega arith) (c .before .if3 .left) (c .if4 .taken)
+returns-4 c = counted 3 _ (omega arith) (c .if4 .left) (c .before .before .if1 .taken)
 
 returns-5 : tie.Need-returns-5
-returns-5 c = counted 4 _ (omega arith) (c .before .if4 .left) (c .if5 .taken)
+returns-5 c = counted 4 _ (omega arith) (c .before .before .if1 .left) (c .if6 .taken)
 
 returns-6 : tie.Need-returns-6
-returns-6 c = counted 5 _ (omega arith) (c .before .if5 .left) (c .if6 .taken)
+returns-6 c = counted 5 _ (omega arith) (c .if6 .left) (c .before .if5 .taken)
 
 returns-7 : tie.Need-returns-7
-returns-7 c = counted 6 _ (omega arith) (c .before .if6 .left) (c .if7 .taken)
+returns-7 c = counted 6 _ (omega arith) (c .before .before .if5 .left) (c .if8 .taken)
+
+returns-8 : tie.Need-returns-8
+returns-8 c = counted 7 _ (omega arith) (c .if8 .left) (c .before .if7 .taken)
 
 digits-by-powers-requires : tie.Need-digits-by-powers-requires
 digits-by-powers-requires c κs = search needs
 
-returns-8 : tie.Need-returns-8
-returns-8 c = search needs
+returns-9 : tie.Need-returns-9
+returns-9 c = search needs
 
 pub digits-spec : {M : Type 1} → statement M
 digits-spec =
     tie.close
-    (tie.spec returns returns-2 returns-3 returns-4 returns-5 returns-6 returns-7 digits-by-powers-requires returns-8)
+    (tie.spec returns returns-2 returns-3 returns-4 returns-5 returns-6 returns-7 returns-8 digits-by-powers-requires returns-9)
