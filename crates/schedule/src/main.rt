@@ -10,6 +10,11 @@ ghost use Prim.Native.Nat.{_≤_};
 ghost use lib.ListN.{length};
 ghost use Rattle.schedule.specs.Rest.{Within};
 
+// How much is read at once. What is answered of it is written at once too, where a result line is at most twice as long as its line.
+const INPUT: usize = 131072;
+
+const OUTPUT: usize = 262144;
+
 enum Rest {
     // This many bytes stand first in the input and are not answered yet.
     Held(usize),
@@ -86,7 +91,7 @@ fn run(input: &mut [u8], output: &mut [u8])
 }
 
 fn main() {
-    let mut input = io::large_buffer();
-    let mut output = io::large_buffer();
+    let mut input = [0u8; INPUT];
+    let mut output = [0u8; OUTPUT];
     run(&mut input, &mut output);
 }

@@ -64,58 +64,79 @@ pub fn agree(lines: &[&[u8]]) -> bool {
     })
 }
 
-/// Nanoseconds of one call in the median of several passes.
-fn time<T, R>(passes: usize, items: &[T], mut call: impl FnMut(&T) -> R) -> f64 {
-    let mut times: Vec<f64> = (0..passes)
-        .map(|_| {
-            let start = Instant::now();
-            for item in items {
-                black_box(call(black_box(item)));
-            }
-            start.elapsed().as_nanos() as f64 / items.len() as f64
-        })
-        .collect();
-    times.sort_by(f64::total_cmp);
-    times[passes / 2]
+/// Nanoseconds of one call in one pass. The result is lent and not moved, since a copy of it would be timed too.
+fn pass<T, R>(items: &[T], mut call: impl FnMut(&T) -> R) -> f64 {
+    let start = Instant::now();
+    for item in items {
+        let result = call(black_box(item));
+        black_box(&result);
+    }
+    start.elapsed().as_nanos() as f64 / items.len() as f64
+}
+
+/// The three calls in turn in each pass, so that a busy machine slows all alike; the medians of the passes.
+fn time<T, A, B, C>(
+    name: &'static str,
+    passes: usize,
+    items: &[T],
+    mut library: impl FnMut(&T) -> A,
+    mut fast: impl FnMut(&T) -> B,
+    mut simple: impl FnMut(&T) -> C,
+) -> Times {
+    let mut times = [const { Vec::new() }; 3];
+    for _ in 0..passes {
+        times[0].push(pass(items, &mut library));
+        times[1].push(pass(items, &mut fast));
+        times[2].push(pass(items, &mut simple));
+    }
+    let [library, fast, simple] = times.map(|mut times: Vec<f64>| {
+        times.sort_by(f64::total_cmp);
+        times[passes / 2]
+    });
+    Times {
+        name,
+        library,
+        fast,
+        simple,
+    }
 }
 
 pub fn measure(passes: usize, lines: &[&[u8]]) -> Vec<Times> {
     let rows: Vec<(Cells, Row)> = lines.iter().filter_map(|line| row_of(line)).collect();
-    let mut out = [0; 64];
+    let mut out = [[0; 64]; 3];
+    let [first, second, third] = &mut out;
     vec![
-        Times {
-            name: "line",
-            library: time(passes, lines, |line| wallcheck::check_line(line)),
-            fast: time(passes, lines, |line| fast::check_line(line)),
-            simple: time(passes, lines, |line| simple::check_line(line)),
-        },
-        Times {
-            name: "line into a buffer",
-            library: time(passes, lines, |line| {
-                wallcheck::check_line_into(line, &mut out)
-            }),
-            fast: time(passes, lines, |line| fast::check_line_into(line, &mut out)),
-            simple: time(passes, lines, |line| {
-                simple::check_line_into(line, &mut out)
-            }),
-        },
-        Times {
-            name: "row",
-            library: time(passes, &rows, |(cells, _)| wallcheck::check_row(*cells)),
-            fast: time(passes, &rows, |(_, row)| fast::check_row(row)),
-            simple: time(passes, &rows, |(_, row)| simple::check_row(row)),
-        },
-        Times {
-            name: "row into a buffer",
-            library: time(passes, &rows, |(cells, _)| {
-                wallcheck::check_row_into(*cells, &mut out)
-            }),
-            fast: time(passes, &rows, |(_, row)| {
-                fast::check_row_into(row, &mut out)
-            }),
-            simple: time(passes, &rows, |(_, row)| {
-                simple::check_row_into(row, &mut out)
-            }),
-        },
+        time(
+            "line",
+            passes,
+            lines,
+            |line| wallcheck::check_line(line),
+            |line| fast::check_line(line),
+            |line| simple::check_line(line),
+        ),
+        time(
+            "line into a buffer",
+            passes,
+            lines,
+            |line| wallcheck::check_line_into(line, first),
+            |line| fast::check_line_into(line, second),
+            |line| simple::check_line_into(line, third),
+        ),
+        time(
+            "row",
+            passes,
+            &rows,
+            |(cells, _)| wallcheck::check_row(*cells),
+            |(_, row)| fast::check_row(row),
+            |(_, row)| simple::check_row(row),
+        ),
+        time(
+            "row into a buffer",
+            passes,
+            &rows,
+            |(cells, _)| wallcheck::check_row_into(*cells, first),
+            |(_, row)| fast::check_row_into(row, second),
+            |(_, row)| simple::check_row_into(row, third),
+        ),
     ]
 }

@@ -61,7 +61,8 @@ fn median(runs: &[Run], of: impl Fn(&Run) -> Duration) -> f64 {
     times[times.len() / 2].as_secs_f64()
 }
 
-/// The runs of each program on one input, in turn, so that a busy machine slows all alike.
+/// The runs of each program on one input, in turn, so that a busy machine slows all alike. Each round begins with another program, since what ran
+/// before leaves its mark on caches and on the files that the system has still to write.
 fn run_all(
     programs: &[Program],
     files: &Files,
@@ -69,15 +70,16 @@ fn run_all(
     runs: usize,
 ) -> io::Result<Vec<Vec<Run>>> {
     let mut all = vec![Vec::new(); programs.len()];
-    for _ in 0..runs {
-        for (program, its_runs) in programs.iter().zip(&mut all) {
-            its_runs.push(program.run(input, &files.output_of(program))?);
+    for round in 0..runs {
+        for turn in 0..programs.len() {
+            let which = (round + turn) % programs.len();
+            let program = &programs[which];
+            all[which].push(program.run(input, &files.output_of(program))?);
         }
     }
     Ok(all)
 }
 
-/// Prints the times of each program and the first one's ratio to each; a busy machine disturbs processor time least.
 fn print_programs(programs: &[Program], runs: &[Vec<Run>], lines: usize) {
     println!(
         "whole program, {lines} lines, median of {} runs",
