@@ -1,8 +1,8 @@
 -- Laws of ranges: what a passed test says.
 use Prim.Native.Nat.{ℕ, _≤_}
 use mathlib.Core.Bool.{Bool, true, _&&_, and-true, and-assoc}
-use mathlib.Core.List.{List, [], _∷_}
-use mathlib.Core.Path.{_≡_, _∙_, refl, sym}
+use mathlib.Core.List.{List, [], _∷_, _++_}
+use mathlib.Core.Path.{_≡_, _∙_, refl, sym, ap}
 use native.Mathlib.Nat.{le-trans}
 use borrow.Author.Tests.{leb-true, le-leb}
 use lib.Dec.{leb}
@@ -28,6 +28,11 @@ pub all-everyHolds : (bs : List Bool) → AllTrue bs → everyHolds bs ≡ true
 unfolding everyHolds
 all-everyHolds [] all = refl
 all-everyHolds (b ∷ bs) all = rw (all .0) (all-everyHolds bs (all .1))
+
+pub everyHolds-append : (bs cs : List Bool) → everyHolds (bs ++ cs) ≡ (everyHolds bs && everyHolds cs)
+unfolding everyHolds
+everyHolds-append [] cs = refl
+everyHolds-append (b ∷ bs) cs = ap (_&&_ b) (everyHolds-append bs cs) ∙ sym (and-assoc b (everyHolds bs) (everyHolds cs))
 
 -- The tests joined from left to right, as the code writes them.
 abbrev pub chain : Bool → List Bool → Bool

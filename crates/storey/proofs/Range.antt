@@ -1,21 +1,31 @@
 -- What a passed range test says of the record.
 use Prim.Native.Nat.{_≤_, _<_, _*_}
-use mathlib.Core.Bool.{Bool, true, false}
-use mathlib.Core.Path.{_≡_}
+use mathlib.Core.Bool.{Bool, true, false, _&&_}
+use mathlib.Core.List.{List}
+use mathlib.Core.Path.{_≡_, _∙_, sym, ap₂}
 use native.Mathlib.Omega.{arith}
 use native.Mathlib.Nat.{mul-le-mul}
 use borrow.Author.Tests.{eqb-true}
 use lib.Dec.{eqb}
-use Rattle.basis.specs.Range.{AllBelow}
+use Rattle.basis.specs.Range.{everyHolds, AllBelow}
 use Rattle.basis.proofs.Choice.{cond-cases}
-use Rattle.basis.proofs.Range.{chain, chain-every, everyHolds-all, within-bounds}
+use Rattle.basis.proofs.Range.{everyHolds-all, everyHolds-append, within-bounds}
 use Rattle.storey.specs.declared.StoreyWall.{StoreyWall}
 use Rattle.storey.specs.Record.{numbers}
-use Rattle.storey.specs.Range.{ranges, distanceInRange, inRange}
+use Rattle.storey.specs.Range.{wallRanges, loadRanges, ranges, distanceInRange, inRange}
 
-pub in-range-chain : (w : StoreyWall) → chain true (ranges w) ≡ inRange w
-unfolding inRange
-in-range-chain w = chain-every true (ranges w)
+-- The two halves of the code's test.
+module _ (w : StoreyWall) where
+  abbrev wall-tests : List Bool
+  wall-tests = wallRanges (w .usage) (w .thickness) (w .height) (w .length) (w .held) (w .distance)
+
+  abbrev load-tests : List Bool
+  load-tests =
+      loadRanges (w .thickness) (w .support) (w .span) (w .bearing) (w .strength) (w .bonded) (w .dead) (w .imposed) (w .floorload) (w .building) (w .storeys)
+
+  pub in-range-parts : (wall load : Bool) → wall ≡ everyHolds wall-tests → load ≡ everyHolds load-tests → (wall && load) ≡ inRange w
+  unfolding inRange
+  in-range-parts wall load wall-is load-is = ap₂ _&&_ wall-is load-is ∙ sym (everyHolds-append wall-tests load-tests)
 
 -- The bounds that sums and products of the check rely on, and the number of held sides.
 pub record Bounds (w : StoreyWall) : Type 0 where

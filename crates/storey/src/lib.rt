@@ -6,7 +6,8 @@ ghost use lib.Dec.{ltb};
 ghost use Prim.Native.Nat.{_+_, _-_, _*_};
 ghost use Rattle.basis.specs.Fraction.{_÷_, whole, ceil, floor, times};
 ghost use Rattle.basis.specs.Refusal.{firstOf};
-ghost use Rattle.storey.specs.Range.{inRange};
+ghost use Rattle.basis.specs.Range.{everyHolds};
+ghost use Rattle.storey.specs.Range.{wallRanges, loadRanges, inRange};
 ghost use Rattle.storey.specs.BucklingLength.{bearingSuffices, factor, threeSides, fourSides, CurvedInputs, LengthInputs, bucklingLength};
 ghost use Rattle.storey.specs.Resistance.{atMidHeight, supportFactor, atSupport, reduction, resistance, MidHeightInputs, SupportInputs, Fifths, SupportFactor};
 ghost use Rattle.storey.specs.Load.{load};
@@ -82,28 +83,81 @@ impl StoreyWall {
 
     const GREATEST_STOREYS: u64 = 20;
 
+    // Use, thickness, clear height, wall length and holding.
+    fn wall_in_range(
+        usage: u64,
+        thickness: u64,
+        height: u64,
+        length: u64,
+        held: u64,
+        distance: u64,
+    ) -> bool
+        ensures { λ inside. ⌜ inside ≡ everyHolds (wallRanges usage thickness height length held distance) ⌝ }
+    {
+        ((1 <= usage) & (usage <= StoreyWall::GREATEST_USAGE))
+            & ((1 <= thickness) & (thickness <= StoreyWall::GREATEST_THICKNESS))
+            & ((1 <= height) & (height <= StoreyWall::GREATEST_HEIGHT))
+            & ((1 <= length) & (length <= StoreyWall::GREATEST_LENGTH))
+            & ((StoreyWall::LEAST_HELD <= held) & (held <= StoreyWall::GREATEST_HELD))
+            & (((held == StoreyWall::TWO_SIDES) & (distance == 0))
+                | ((held != StoreyWall::TWO_SIDES)
+                    & ((1 <= distance) & (distance <= StoreyWall::GREATEST_DISTANCE))))
+    }
+
+    // Support, bearing, strength, loads and building.
+    fn load_in_range(
+        thickness: u64,
+        support: u64,
+        span: u64,
+        bearing: u64,
+        strength: u64,
+        bonded: u64,
+        dead: u64,
+        imposed: u64,
+        floorload: u64,
+        building: u64,
+        storeys: u64,
+    ) -> bool
+        ensures { λ inside. ⌜ inside ≡ everyHolds (loadRanges thickness support span bearing strength bonded dead imposed floorload building storeys) ⌝ }
+    {
+        ((1 <= support) & (support <= StoreyWall::GREATEST_SUPPORT))
+            & ((1 <= span) & (span <= StoreyWall::GREATEST_SPAN))
+            & ((1 <= bearing) & (bearing <= thickness))
+            & ((1 <= strength) & (strength <= StoreyWall::GREATEST_STRENGTH))
+            & (bonded <= StoreyWall::GREATEST_BONDED)
+            & ((1 <= dead) & (dead <= StoreyWall::GREATEST_LOAD))
+            & (imposed <= StoreyWall::GREATEST_LOAD)
+            & (floorload <= StoreyWall::GREATEST_FLOOR_LOAD)
+            & ((1 <= building) & (building <= StoreyWall::GREATEST_BUILDING))
+            & ((1 <= storeys) & (storeys <= StoreyWall::GREATEST_STOREYS))
+    }
+
     // Whether every number of the record is in its range.
     pub fn in_range(self) -> bool
         ensures { λ inside. ⌜ inside ≡ inRange self ⌝ }
     {
-        ((1 <= self.usage) & (self.usage <= StoreyWall::GREATEST_USAGE))
-            & ((1 <= self.thickness) & (self.thickness <= StoreyWall::GREATEST_THICKNESS))
-            & ((1 <= self.height) & (self.height <= StoreyWall::GREATEST_HEIGHT))
-            & ((1 <= self.length) & (self.length <= StoreyWall::GREATEST_LENGTH))
-            & ((StoreyWall::LEAST_HELD <= self.held) & (self.held <= StoreyWall::GREATEST_HELD))
-            & (((self.held == StoreyWall::TWO_SIDES) & (self.distance == 0))
-                | ((self.held != StoreyWall::TWO_SIDES)
-                    & ((1 <= self.distance) & (self.distance <= StoreyWall::GREATEST_DISTANCE))))
-            & ((1 <= self.support) & (self.support <= StoreyWall::GREATEST_SUPPORT))
-            & ((1 <= self.span) & (self.span <= StoreyWall::GREATEST_SPAN))
-            & ((1 <= self.bearing) & (self.bearing <= self.thickness))
-            & ((1 <= self.strength) & (self.strength <= StoreyWall::GREATEST_STRENGTH))
-            & (self.bonded <= StoreyWall::GREATEST_BONDED)
-            & ((1 <= self.dead) & (self.dead <= StoreyWall::GREATEST_LOAD))
-            & (self.imposed <= StoreyWall::GREATEST_LOAD)
-            & (self.floorload <= StoreyWall::GREATEST_FLOOR_LOAD)
-            & ((1 <= self.building) & (self.building <= StoreyWall::GREATEST_BUILDING))
-            & ((1 <= self.storeys) & (self.storeys <= StoreyWall::GREATEST_STOREYS))
+        let wall = StoreyWall::wall_in_range(
+            self.usage,
+            self.thickness,
+            self.height,
+            self.length,
+            self.held,
+            self.distance,
+        );
+        let load = StoreyWall::load_in_range(
+            self.thickness,
+            self.support,
+            self.span,
+            self.bearing,
+            self.strength,
+            self.bonded,
+            self.dead,
+            self.imposed,
+            self.floorload,
+            self.building,
+            self.storeys,
+        );
+        wall & load
     }
 }
 
