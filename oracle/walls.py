@@ -207,10 +207,15 @@ CELLAR_REFUSALS = [
 ]
 
 
+def first_refusal(refusals, wall):
+    """The number of the first refusal that applies, or 0."""
+    return next((number for number, applies in refusals if applies(wall)), 0)
+
+
 def check_storey(wall):
-    for number, applies in STOREY_REFUSALS:
-        if applies(wall):
-            return refused(number)
+    number = first_refusal(STOREY_REFUSALS, wall)
+    if number:
+        return refused(number)
     E = buckling_length(wall)
     N = load(wall.G, wall.Q)
     resistance = storey_resistance(wall, E)
@@ -218,9 +223,9 @@ def check_storey(wall):
 
 
 def check_cellar(wall):
-    for number, applies in CELLAR_REFUSALS:
-        if applies(wall):
-            return refused(number)
+    number = first_refusal(CELLAR_REFUSALS, wall)
+    if number:
+        return refused(number)
     required = need(wall)
     N = load(wall.G, wall.Q)
     resistance = cellar_resistance(wall)

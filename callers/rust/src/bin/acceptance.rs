@@ -58,14 +58,13 @@ fn lent(result: CheckResult, out_len: usize) -> (CheckResult, Vec<u8>) {
     if out_len < 64 {
         return (refused(20), out);
     }
-    let CheckResult {
-        refusal,
-        length_or_need,
-        load,
-        resistance,
-        spare,
-    } = result;
-    let text = format!("{refusal} {length_or_need} {load} {resistance} {spare}\n");
+    let numbers = [
+        result.refusal,
+        result.length_or_need,
+        result.load,
+        result.resistance,
+    ];
+    let text = numbers.map(|number| format!("{number} ")).concat() + &format!("{}\n", result.spare);
     out[..text.len()].copy_from_slice(text.as_bytes());
     (result, out)
 }
