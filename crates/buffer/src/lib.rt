@@ -1,20 +1,10 @@
-// What a writer does to a lent buffer: a byte, a text or zeros put over a part of it.
+// What a writer does to a lent buffer: a text or zeros put over a part of it.
 // What does not fit leaves the buffer alone.
 ghost use mathlib.Core.Path.{_≡_};
-ghost use mathlib.Core.List.{[], _∷_};
 ghost use Prim.Native.Nat.{_+_};
 ghost use lib.Dec.{leb};
 ghost use lib.ListN.{length, replicate};
 ghost use Rattle.buffer.specs.Overwrite.{overwrite};
-
-// One byte.
-pub fn put(out: &mut [u8], at: usize, byte: u8)
-    ensures { λ _. ⌜ now (out .exit) ≡ overwrite (now (out .entry)) at (byte ∷ []) ⌝ }
-{
-    if at < out.len() {
-        out[at] = byte;
-    }
-}
 
 // The bytes of `text`.
 pub fn copy(out: &mut [u8], at: usize, text: &[u8])
