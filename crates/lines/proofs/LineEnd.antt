@@ -3,15 +3,14 @@ use Prim.Native.Nat.{ℕ, _+_, _≤_, _<_}
 use native.Mathlib.Nat.{add-zero}
 use native.Mathlib.Numerals.{add-one}
 use native.Mathlib.Omega.{arith}
-use mathlib.Core.Bool.{true, false, false≢true, _||_, or-assoc, or-true, or-false}
+use mathlib.Core.Bool.{Bool, true, false, false≢true, not, _||_, or-assoc, or-true, or-false}
 use mathlib.Core.List.{List, [], _∷_, _++_, append-nil}
 use mathlib.Core.Path.{_≡_, refl, sym, ap, _∙_, subst⁻¹}
 use lib.Dec.{eqb, ltb}
 use lib.ListN.{length, take, drop, getD, length-append, length-drop, take-append-drop, drop-of-length-le}
-use lib.Seq.{take-suc, take-append-add, take-append-seam, drop-cons, drop-drop, length-take-le}
-use borrow.Author.Tests.{eqb-true, ne-eqb, lt-ltb, le-ltb}
-use Rattle.basis.proofs.Choice.{cond-cases}
-use Rattle.basis.proofs.Choice.{or-left, or-right}
+use lib.Seq.{take-suc, take-append-add, take-append-seam, take-add, drop-cons, drop-drop, length-take-le}
+use borrow.Author.Tests.{eqb-true, ne-eqb, lt-ltb, le-ltb, not-true, not-false}
+use Rattle.basis.proofs.Choice.{cond-cases, or-left, or-right}
 use Rattle.lines.specs.Answer.{ended, lineLength}
 
 pub ended-append : (a b : List ℕ) → ended (a ++ b) ≡ (ended a || ended b)
@@ -132,3 +131,35 @@ unfolding lineLength
 passed-at-line-end {l} {from} {at} p within is =
     let first : lineLength (drop at l) ≡ 0 = rw (drop-cons l at 0 within, is) in
     omega (arith, p .end)
+
+-- ── the search within bytes that have a byte 10 ──
+-- From byte `from` up to byte `at` there is no byte 10, and the next `width` bytes have one.
+pub record Found (l : List ℕ) (from at width : ℕ) : Type 0 where
+  pub passed : Passed l from at
+  pub fits : at + width ≤ length l
+  pub some : ended (take width (drop at l)) ≡ true
+
+-- A test of the first half leaves half as many bytes: where the first half has no byte 10, the second half has one.
+module _ {l : List ℕ} {from at : ℕ} {any : Bool} (width : ℕ) (f : Found l from at (width + width)) (e : any ≡ ended (take width (drop at l))) where
+  pub found-second : not any ≡ true → Found l from (at + width) width
+  found-second none =
+      let first = take width (drop at l) in
+      let second = take width (drop width (drop at l)) in
+      let not-first : ended first ≡ false = sym e ∙ not-true any none in
+      let either : (ended first || ended second) ≡ true = sym (ap ended (take-add width width (drop at l)) ∙ ended-append first second) ∙ f .some in
+      let in-second : ended second ≡ true = rw not-first at either in
+      record {
+        passed = passed-more width (f .passed) (omega (arith, f .fits)) not-first;
+        fits = omega (arith, f .fits);
+        some = rw (drop-drop width at l) at in-second;
+      }
+
+  pub found-first : not any ≡ false → Found l from at width
+  found-first some = record { passed = f .passed; fits = omega (arith, f .fits); some = sym e ∙ not-false any some }
+
+-- Where a single byte is left, it is byte 10.
+pub found-alone : {l : List ℕ} {from at : ℕ} → Found l from at 1 → at ≡ from + lineLength (drop from l)
+unfolding ended
+found-alone {l} {from} {at} f =
+    let within : at < length l = omega (arith, f .fits) in
+    passed-at-line-end (f .passed) within (eqb-true (getD l at 0) 10 (rw (drop-cons l at 0 within, or-false) at (f .some)))

@@ -1,5 +1,5 @@
 // The lines of an input that comes in blocks, each answered by the text of its result.
-ghost use mathlib.Core.Bool.{cond};
+ghost use mathlib.Core.Bool.{cond, true};
 ghost use mathlib.Core.Path.{_≡_};
 ghost use Prim.Native.Nat.{_+_, _≤_, min};
 ghost use lib.ListN.{length, take, drop};
@@ -91,6 +91,9 @@ fn line_end(block: &[u8], from: usize) -> usize
     ensures { λ end. ⌜ end ≡ from + lineLength (drop from (now (block .entry))) ⌝ }
 {
     let mut at = skip_chunks(block, from);
+    if CHUNK <= block.len() - at {
+        return first_end(block, at);
+    }
     while at < block.len() {
         if block[at] == LINE_END {
             break;
@@ -100,15 +103,37 @@ fn line_end(block: &[u8], from: usize) -> usize
     at
 }
 
-// Passes over chunks without byte 10.
+// Where byte 10 stands first in a chunk that has one: in which half, in which half of that, and so on. The processor need not guess how long a line is.
+fn first_end(block: &[u8], from: usize) -> usize
+    requires { ⌜ (from + 16 ≤ length (now block)) × (ended (take 16 (drop from (now block))) ≡ true) ⌝ }
+    ensures { λ end. ⌜ end ≡ from + lineLength (drop from (now (block .entry))) ⌝ }
+{
+    let mut at = from;
+    if !any_end(block, at, 8) {
+        at += 8;
+    }
+    if !any_end(block, at, 4) {
+        at += 4;
+    }
+    if !any_end(block, at, 2) {
+        at += 2;
+    }
+    if !any_end(block, at, 1) {
+        at += 1;
+    }
+    at
+}
+
+// Passes over chunks without byte 10, up to one that has it or to where no whole chunk is left.
 fn skip_chunks(block: &[u8], from: usize) -> usize
     requires { ⌜ from ≤ length (now block) ⌝ }
     ensures within { λ at. ⌜ at ≤ length (now (block .entry)) ⌝ }
     ensures none { λ at. ⌜ at + lineLength (drop at (now (block .entry))) ≡ from + lineLength (drop from (now (block .entry))) ⌝ }
+    ensures found { λ at. ⌜ (at + 16 ≤ length (now (block .entry)) → ended (take 16 (drop at (now (block .entry)))) ≡ true) ⌝ }
 {
     let mut at = from;
     while CHUNK <= block.len() - at {
-        if any_end(block, at) {
+        if any_end(block, at, CHUNK) {
             break;
         }
         at += CHUNK;
@@ -116,13 +141,13 @@ fn skip_chunks(block: &[u8], from: usize) -> usize
     at
 }
 
-// Whether byte 10 is in the chunk that begins at `from`. Looks at every byte of it, so that the processor compares them all at once.
-fn any_end(block: &[u8], from: usize) -> bool
-    requires { ⌜ from + 16 ≤ length (now block) ⌝ }
-    ensures { λ any. ⌜ any ≡ ended (take 16 (drop from (now (block .entry)))) ⌝ }
+// Whether byte 10 is among the `count` bytes that begin at `from`. Looks at every one of them, so that the processor compares them all at once.
+fn any_end(block: &[u8], from: usize, count: usize) -> bool
+    requires { ⌜ from + count ≤ length (now block) ⌝ }
+    ensures { λ any. ⌜ any ≡ ended (take count (drop from (now (block .entry)))) ⌝ }
 {
     let mut any = false;
-    for k in 0..CHUNK {
+    for k in 0..count {
         any = any | (block[from + k] == LINE_END);
     }
     any

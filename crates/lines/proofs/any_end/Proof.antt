@@ -1,4 +1,4 @@
--- `lines::any_end` meets its contract. The loop's invariant: `any` says whether byte 10 is among the first k bytes of the chunk.
+-- `lines::any_end` meets its contract. The loop's invariant: `any` says whether byte 10 is among the first k bytes. Assumes nothing.
 use Prim.Native.Nat.{ℕ, _+_, _-_, _≤_, _<_}
 use native.Mathlib.Omega.{arith}
 use mathlib.Core.Bool.{Bool, _||_}
@@ -15,10 +15,10 @@ use Rattle.lines.proofs.any_end.Statement.{statement}
 use Rattle.lines.proofs.any_end.Tie as tie
 
 abbrev Inv-loop : tie.InvT-loop
-Inv-loop block from any₀ k₀ any k = (k ≤ 16) × (any ≡ ended (take k (drop from block)))
+Inv-loop block from count any₀ k₀ any k = (k ≤ count) × (any ≡ ended (take k (drop from block)))
 
 abbrev μ-loop : tie.MeasureT-loop
-μ-loop block from any₀ k₀ any k = 16 - k
+μ-loop block from count any₀ k₀ any k = count - k
 
 any-more :
     (block : List ℕ) (from k : ℕ) {any : Bool} → from + k < length block → any ≡ ended (take k (drop from block))
@@ -50,7 +50,7 @@ loop-again c =
 
 returns : tie.Need-returns Inv-loop μ-loop
 returns c =
-    let all : c .before .loop .k ≡ 16 = omega arith in
+    let all : c .before .loop .k ≡ c .before .before .args .count = omega arith in
     rw all at (c .before .loop .inv .1)
 
 pub any-end-spec : {M : Type 1} → statement M

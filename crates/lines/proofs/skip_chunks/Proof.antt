@@ -32,10 +32,12 @@ loop-again : tie.Need-loop-again Inv-loop μ-loop
 loop-again c = passed-more 16 (c .before .before .before .loop .inv) (omega arith) (sym (c .before .any-end .ensures) ∙ c .if1 .left)
 
 returns : tie.Need-returns Inv-loop μ-loop
-returns c = (c .before .loop .inv .within, c .before .loop .inv .end)
+returns c = (c .before .loop .inv .within, (c .before .loop .inv .end, λ whole. absurd (omega arith)))
 
 returns-2 : tie.Need-returns-2 Inv-loop μ-loop
-returns-2 c = (c .before .before .before .loop .inv .within, c .before .before .before .loop .inv .end)
+returns-2 c =
+    let passed = c .before .before .before .loop .inv in
+    (passed .within, (passed .end, λ whole. sym (c .before .any-end .ensures) ∙ c .if1 .taken))
 
 pub skip-chunks-spec : {M : Type 1} → statement M
 skip-chunks-spec =
