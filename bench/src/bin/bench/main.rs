@@ -4,7 +4,7 @@
 //!     bench SCHEDULE [LINES RUNS]
 //!
 //! SCHEDULE is the path of the schedule program; `simple` and `fast` stand beside this program. Without numbers a
-//! million lines are used and each program runs 9 times. Ends with status 1 if an output differs, or if a line costs
+//! million lines are used and each program runs 15 times. Ends with status 1 if an output differs, or if a line costs
 //! more in a long schedule than in a short one.
 
 mod calls;
@@ -207,7 +207,7 @@ fn main() -> io::Result<()> {
     let number =
         |text: &String, least| text.parse::<usize>().ok().filter(|&number| number >= least);
     let (schedule, lines, runs) = match &arguments[..] {
-        [schedule] => (schedule, Some(1_000_000), Some(9)),
+        [schedule] => (schedule, Some(1_000_000), Some(15)),
         [schedule, lines, runs] => (schedule, number(lines, 10), number(runs, 1)),
         _ => return Err(io::Error::other("usage: bench SCHEDULE [LINES RUNS]")),
     };
