@@ -6,7 +6,6 @@ ghost use Rattle.basis.specs.Refusal.{firstOf};
 ghost use Rattle.cellar.specs.Range.{inRange};
 ghost use Rattle.cellar.specs.RequiredLoad.{requiredLoad};
 ghost use Rattle.cellar.specs.Resistance.{resistance};
-ghost use Rattle.cellar.specs.Load.{load};
 ghost use Rattle.cellar.specs.Limits.{limits};
 ghost use Rattle.cellar.specs.Check.{check, WithinLimits};
 use basis::CheckResult;
@@ -72,7 +71,7 @@ impl CellarWall {
     }
 }
 
-// Required load, resistance and load.
+// Required load and resistance.
 impl CellarWall {
     // B, by the spacing of the cross walls: WIDE_FACTOR from twice the height on, CLOSE_FACTOR up to the height,
     // between them BETWEEN_FACTOR - BETWEEN_SLOPE c/h.
@@ -132,14 +131,6 @@ impl CellarWall {
                 / (CellarWall::STRENGTH_DIVISOR * CellarWall::WHOLE_FIFTHS);
         }
         product / CellarWall::STRENGTH_DIVISOR
-    }
-
-    // N, the design load in N/m.
-    fn load(self) -> u64
-        requires { ⌜ WithinLimits self ⌝ }
-        ensures { λ rounded. ⌜ rounded ≡ load self ⌝ }
-    {
-        basis::design_load(self.dead as u32, self.imposed as u32)
     }
 }
 
@@ -202,7 +193,7 @@ impl CellarWall {
         ensures { λ result. ⌜ result ≡ check self ⌝ }
     {
         let required = self.required_load();
-        let load = self.load();
+        let load = basis::design_load(self.dead as u32, self.imposed as u32);
         let resistance = self.resistance();
         let refusal = CellarWall::measure(resistance, load, self.dead, required);
         CheckResult::filled(refusal, required, load as u32, resistance as u32)

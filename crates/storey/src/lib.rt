@@ -10,7 +10,6 @@ ghost use Rattle.basis.specs.Range.{everyHolds};
 ghost use Rattle.storey.specs.Range.{wallRanges, loadRanges, inRange};
 ghost use Rattle.storey.specs.BucklingLength.{bearingSuffices, factor, threeSides, fourSides, CurvedInputs, LengthInputs, bucklingLength};
 ghost use Rattle.storey.specs.Resistance.{atMidHeight, supportFactor, atSupport, reduction, resistance, MidHeightInputs, SupportInputs, Fifths, SupportFactor};
-ghost use Rattle.storey.specs.Load.{load};
 ghost use Rattle.storey.specs.Limits.{unfitForUse, tooHigh, floorLoadTooGreat, bearingTooShallow, limits};
 ghost use Rattle.storey.specs.Check.{check, Located, Measured};
 use basis::CheckResult;
@@ -279,7 +278,7 @@ impl StoreyWall {
     }
 }
 
-// Resistance and load.
+// Resistance.
 impl StoreyWall {
     const INTERMEDIATE_SUPPORT: u64 = 1;
 
@@ -386,14 +385,6 @@ impl StoreyWall {
             return middle;
         }
         end
-    }
-
-    // N, the design load in N/m.
-    fn load(self) -> u64
-        requires { ⌜ inRange self ≡ true ⌝ }
-        ensures { λ rounded. ⌜ rounded ≡ load self ⌝ }
-    {
-        basis::design_load(self.dead as u32, self.imposed as u32)
     }
 }
 
@@ -595,7 +586,7 @@ impl StoreyWall {
         requires { ⌜ Measured self length ⌝ }
         ensures { λ result. ⌜ result ≡ check self ⌝ }
     {
-        let load = self.load();
+        let load = basis::design_load(self.dead as u32, self.imposed as u32);
         let resistance = self.resistance(length);
         let refusal = StoreyWall::measure(resistance, load);
         CheckResult::filled(refusal, length, load as u32, resistance as u32)
