@@ -27,7 +27,8 @@ pub fn check_row(row: Row) -> CheckResult
     row.wall().check()
 }
 
-// The result of a line, also written to `out` as text.
+// The result of a line, also written to `out` as text. The text is written from where the check has put the result: what reads a copy of it would wait
+// for the copy.
 pub fn check_line_into(line: &[u8], out: &mut [u8]) -> CheckResult
     ensures { λ result. ⌜ record { result = result; buffer = now (out .exit) } ≡ lent (now (out .entry)) (lineResult (now (line .entry))) ⌝ }
 {
