@@ -8,7 +8,7 @@ ghost use Rattle.basis.specs.Fraction.{_÷_, whole, ceil, floor, times};
 ghost use Rattle.basis.specs.Refusal.{firstOf};
 ghost use Rattle.basis.specs.Range.{everyHolds};
 ghost use Rattle.storey.specs.Range.{wallRanges, loadRanges, inRange};
-ghost use Rattle.storey.specs.BucklingLength.{factor, threeSides, fourSides, CurvedInputs, LengthInputs, bucklingLength};
+ghost use Rattle.storey.specs.BucklingLength.{bearingSuffices, factor, threeSides, fourSides, CurvedInputs, LengthInputs, bucklingLength};
 ghost use Rattle.storey.specs.Resistance.{atMidHeight, supportFactor, atSupport, reduction, resistance, MidHeightInputs, SupportInputs, Fifths, SupportFactor};
 ghost use Rattle.storey.specs.Limits.{unfitForUse, tooHigh, floorLoadTooGreat, bearingTooShallow, limits};
 ghost use Rattle.storey.specs.Check.{check, Located, Measured};
@@ -196,13 +196,20 @@ impl StoreyWall {
     // Two sides: k/2.
     const TWO_SIDES_DIVISOR: u64 = 2;
 
+    fn bearing_suffices(thickness: u64, bearing: u64) -> bool
+        ensures { λ suffices. ⌜ suffices ≡ bearingSuffices thickness bearing ⌝ }
+    {
+        if StoreyWall::THICK <= thickness {
+            return StoreyWall::FULL_BEARING <= bearing;
+        }
+        bearing == thickness
+    }
+
     // r, the factor of the clear height in twentieths.
     fn factor(thickness: u64, bearing: u64) -> u64
         ensures { λ twentieths. ⌜ twentieths ≡ factor thickness bearing ⌝ }
     {
-        let thick = StoreyWall::THICK <= thickness;
-        let suffices = (thick & (StoreyWall::FULL_BEARING <= bearing))
-            | (!thick & (bearing == thickness));
+        let suffices = StoreyWall::bearing_suffices(thickness, bearing);
         if suffices & (thickness <= StoreyWall::THIN_FACTOR_THICKNESS) {
             return StoreyWall::THIN_FACTOR;
         }

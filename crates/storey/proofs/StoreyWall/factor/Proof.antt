@@ -2,8 +2,8 @@
 use mathlib.Core.Bool.{Bool, true, false, cond, _&&_}
 use mathlib.Core.Path.{_≡_, refl}
 use Prim.Native.Nat.{ℕ}
-use Rattle.basis.proofs.Choice.{cond-or}
-use Rattle.storey.specs.BucklingLength.{bearingSuffices, factor}
+use borrow.Author.Needs.{needs}
+use Rattle.storey.specs.BucklingLength.{factor}
 use Rattle.storey.proofs.StoreyWall.factor.Statement.{statement}
 use Rattle.storey.proofs.StoreyWall.factor.Tie as tie
 
@@ -11,17 +11,20 @@ in-two-steps : (suffices thin medium : Bool) (x y z : ℕ) → cond suffices (co
 in-two-steps true thin medium x y z = refl
 in-two-steps false thin medium x y z = refl
 
+bearing-suffices-requires : tie.Need-bearing-suffices-requires
+bearing-suffices-requires c κs = search needs
+
 returns : tie.Need-returns
-unfolding factor bearingSuffices
-returns c = rw (cond-or, in-two-steps, c .if1 .taken)
+unfolding factor
+returns c = rw (← c .before .bearing-suffices .ensures, in-two-steps, c .if1 .taken)
 
 returns-2 : tie.Need-returns-2
-unfolding factor bearingSuffices
-returns-2 c = rw (cond-or, in-two-steps, c .before .if1 .left, c .if2 .taken)
+unfolding factor
+returns-2 c = rw (← c .before .before .bearing-suffices .ensures, in-two-steps, c .before .if1 .left, c .if2 .taken)
 
 returns-3 : tie.Need-returns-3
-unfolding factor bearingSuffices
-returns-3 c = rw (cond-or, in-two-steps, c .before .if1 .left, c .if2 .left)
+unfolding factor
+returns-3 c = rw (← c .before .before .bearing-suffices .ensures, in-two-steps, c .before .if1 .left, c .if2 .left)
 
 pub factor-spec : {M : Type 1} → statement M
-factor-spec = tie.close (tie.spec returns returns-2 returns-3)
+factor-spec = tie.close (tie.spec bearing-suffices-requires returns returns-2 returns-3)
