@@ -72,10 +72,11 @@ pub lent-short : (buffer : List ℕ) (r handed : CheckResult) → handed ≡ ref
 unfolding lent
 lent-short buffer r handed is short = rw (is, lt-ltb (length buffer) 64 short)
 
-pub lent-written : (buffer after : List ℕ) (count : ℕ) (r : CheckResult) → Below 1000000000 r →
-    record { buffer = after; count = count } ≡ written r buffer → 64 ≤ length buffer → record { result = r; buffer = after } ≡ lent buffer r
+pub lent-written : (buffer after : List ℕ) (count : ℕ) (handed r : CheckResult) → handed ≡ r → Below 1000000000 r →
+    record { buffer = after; count = count } ≡ written handed buffer → 64 ≤ length buffer → record { result = handed; buffer = after } ≡ lent buffer r
 unfolding lent
-lent-written buffer after count r below wrote long =
-    let text = overwrite-start buffer (resultText r) (le-trans (text-within-64 r below) long) in
+lent-written buffer after count handed r is below wrote long =
+    let fits : length (resultText handed) ≤ 64 = rw is (text-within-64 r below) in
+    let text = overwrite-start buffer (resultText handed) (le-trans fits long) in
     let holds = ap (λ (w : Written). w .buffer) wrote in
-    rw (le-ltb (length buffer) 64 long) (ap (λ (bytes : List ℕ). record { result = r; buffer = bytes }) (holds ∙ text))
+    rw (← is, le-ltb (length buffer) 64 long) (ap (λ (bytes : List ℕ). record { result = handed; buffer = bytes }) (holds ∙ text))

@@ -32,7 +32,7 @@ cellsRow cells holding =
       storeys = cells .storeys;
     }
 
--- The holding of a number of sides: three sides, four sides, else two.
+-- The holding that an inner function builds the record with: three sides, four sides, else two. What counts is `cellsResult` below.
 abbrev pub cellsHolding : ℕ → Float → Holding
 cellsHolding held distance = cond (eqb held 3) (ThreeSides distance) (cond (eqb held 4) (FourSides distance) TwoSides)
 

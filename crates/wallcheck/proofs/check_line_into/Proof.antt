@@ -1,7 +1,5 @@
 -- `wallcheck::check_line_into` meets its contract: the result is handed back and written, or the buffer is too short for any.
 use borrow.Author.Needs.{needs}
-use mathlib.Core.Path.{_∙_, ap}
-use Rattle.wallcheck.specs.Entry.{lent}
 use Rattle.wallcheck.proofs.Entry.{line-below, lent-short, lent-written}
 use Rattle.wallcheck.proofs.check_line_into.Statement.{statement}
 use Rattle.wallcheck.proofs.check_line_into.Tie as tie
@@ -21,8 +19,7 @@ same-length c = search needs
 returns : tie.Need-returns
 returns c =
     let checked = c .before .before .before .before in
-    let is = checked .check-line .ensures in
-    lent-written _ _ _ _ (rw is (line-below _)) (c .before .before .write .ensures) (checked .before .if1 .taken) ∙ ap (lent _) is
+    lent-written _ _ _ _ _ (checked .check-line .ensures) (line-below _) (c .before .before .write .ensures) (checked .before .if1 .taken)
 
 returns-2 : tie.Need-returns-2
 returns-2 c = lent-short _ _ _ (c .before .refused .ensures) (c .if1 .left)

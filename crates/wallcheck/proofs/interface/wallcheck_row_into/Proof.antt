@@ -1,7 +1,6 @@
 -- `wallcheck_row_into` meets its contract: the result is handed back and written, or the buffer is too short for any.
 use borrow.Author.Needs.{needs}
-use mathlib.Core.Path.{_∙_, ap}
-use Rattle.wallcheck.specs.Entry.{lent}
+use mathlib.Core.Path.{_∙_}
 use Rattle.wallcheck.proofs.Entry.{cells-below, lent-short, lent-written}
 use Rattle.wallcheck.proofs.interface.wallcheck_row_into.Statement.{statement}
 use Rattle.wallcheck.proofs.interface.wallcheck_row_into.Tie as tie
@@ -24,8 +23,7 @@ same-length c = search needs
 returns : tie.Need-returns
 returns c =
     let checked = c .before .before .before .before in
-    let is = checked .check .ensures ∙ checked .before .wall-of .ensures in
-    lent-written _ _ _ _ (rw is (cells-below _)) (c .before .before .write .ensures) (checked .before .before .if1 .taken) ∙ ap (lent _) is
+    lent-written _ _ _ _ _ (checked .check .ensures ∙ checked .before .wall-of .ensures) (cells-below _) (c .before .before .write .ensures) (checked .before .before .if1 .taken)
 
 returns-2 : tie.Need-returns-2
 returns-2 c = lent-short _ _ _ (c .before .refused .ensures) (c .if1 .left)
