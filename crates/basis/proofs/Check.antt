@@ -1,119 +1,75 @@
--- Laws of a check, over any range test, limits, measures and four numbers: which case a record falls in, and what its result is.
-use Prim.Native.Nat.{ℕ, _<_}
-use mathlib.Core.Bool.{Bool, true, false, false≢true, not, _||_}
-use mathlib.Core.List.{List}
-use mathlib.Core.Logic.{_↔_}
-use mathlib.Core.Path.{_≡_, _∙_, refl, sym, ap}
-use native.Mathlib.Decide.{ℕ-discrete}
-use borrow.Author.Tests.{not-false, ne-eqb}
-use lib.Dec.{T, eqb, ltb, ltb→lt, lt→ltb}
+-- Proofs of the claims of specs/Check.antt, and the cases of a check, over any parts.
+use Prim.Native.Nat.{ℕ}
+use mathlib.Core.Bool.{Bool, true, false, not}
+use mathlib.Core.List.{List, _∷_}
+use mathlib.Core.Path.{_≡_, _∙_, ap}
+use native.Mathlib.Omega.{arith}
+use borrow.Author.Tests.{not-false, ltb-true, lt-ltb}
+use lib.Dec.{ltb}
 use Rattle.basis.specs.declared.CheckResult.{CheckResult}
-use Rattle.basis.specs.Refusal.{firstOf, inOrder, NoneApplies}
-use Rattle.basis.specs.Result.{refusedWith, filledWith, fillsAll, resultOf, Below, SpareSigned}
-use Rattle.basis.proofs.Choice.{cond-cases, T-true, not-T-false, or-other}
-use Rattle.basis.proofs.Refusal.{
-  everyNumber,
-  numbered,
-  numbered-append,
-  firstOf-none,
-  none-firstOf,
-  firstOf-first,
-  firstOf-second,
-  firstOf-every,
-  NoneApplies-append,
-  NoneApplies-split,
-}
+use Rattle.basis.specs.Refusal.{firstOr, firstOf, NoneApplies}
+use Rattle.basis.specs.Result.{refusedWith, Below, SpareSigned}
+use Rattle.basis.specs.Check.{Parts, reported, resultOf, everyNumber, everyRefusal, AcceptedExactly, ReportedNumbers, SpareIsSigned, ResultIsBounded}
+use Rattle.basis.proofs.Choice.{and-left, and-right}
+use Rattle.basis.proofs.Refusal.{firstOr-cases, firstOr-none, firstOr-some, none-firstOf, every-any}
 use Rattle.basis.proofs.Result.{filled-spare, refused-spare, filled-below, refused-below}
 
--- Every result, filled or not, reports its refusal and the signed spare.
+module _ (p : Parts) where
+  -- 2 and the limits, which leave four zeros.
+  abbrev front : List (ℕ × Bool)
+  front = (2, not (p .inRange)) ∷ p .limits
 
-pub result-refusal : (n second N R : ℕ) → resultOf n second N R .refusal ≡ n
+  -- What holds of every refusal with four zeros, and of what is reported within the ranges and every limit, holds of the result.
+  pub result-cases : (P : CheckResult → Type 0) (test : ℕ → Bool) → everyNumber test front ≡ true → ((n : ℕ) → test n ≡ true → P (refusedWith n)) →
+      (p .inRange ≡ true → NoneApplies (p .limits) → P (reported p)) → P (resultOf p)
+  unfolding resultOf
+  result-cases P test every refused within =
+      firstOr-cases refusedWith P test front every refused (λ none. within (not-false (p .inRange) (none .0)) (none .1))
+
+  pub result-out-of-range : p .inRange ≡ false → resultOf p ≡ refusedWith 2
+  unfolding resultOf firstOr
+  result-out-of-range failed = rw failed
+
+  pub result-limit : p .inRange ≡ true → (firstOf (p .limits) ≡ 0 → ⊥) → resultOf p ≡ refusedWith (firstOf (p .limits))
+  unfolding resultOf firstOr
+  result-limit passed beyond = rw passed (firstOr-some refusedWith (p .limits) (reported p) beyond)
+
+  -- A test that 0 and the number of every refusal pass holds of the number of the result.
+  pub refusal-passes : (test : ℕ → Bool) → test 0 ≡ true → everyRefusal test p ≡ true → test (resultOf p .refusal) ≡ true
+  refusal-passes test accepted every =
+      result-cases (λ r. test (r .refusal) ≡ true) test (and-left (everyNumber test front) (everyNumber test (p .measures)) every) (λ n is. is)
+      (λ _ _. firstOr-cases (λ n. n) (λ n. test n ≡ true) test (p .measures) (and-right (everyNumber test front) (everyNumber test (p .measures)) every)
+      (λ n is. is) (λ _. accepted))
+
+pub reported-numbers : ReportedNumbers
 unfolding resultOf
-result-refusal n second N R = cond-cases (λ (r : CheckResult). r .refusal ≡ n) (fillsAll n) (λ _. refl) (λ _. refl)
+reported-numbers p passed none = firstOr-none refusedWith (front p) (ap not passed, none)
 
-pub result-spare : (n second N R : ℕ) → SpareSigned (resultOf n second N R)
-unfolding resultOf
-result-spare n second N R =
-    cond-cases SpareSigned (fillsAll n) (λ _. filled-spare n second N R) (λ _. refused-spare n)
+pub accepted-exactly : AcceptedExactly
+accepted-exactly p positive =
+    let test : ℕ → Bool = λ n. ltb 0 n in
+    let first = and-left (everyNumber test (front p)) (everyNumber test (p .measures)) positive in
+    let second = and-right (everyNumber test (front p)) (everyNumber test (p .measures)) positive in (
+      result-cases p (λ r. r .refusal ≡ 0 → (p .inRange ≡ true) × NoneApplies (p .limits) × NoneApplies (p .measures)) test first
+          (λ n above is. absurd (let no· : ⊥ = omega (arith, ltb-true 0 n above) in no·))
+          (λ passed none accepted. (passed, none, none-firstOf (p .measures) second accepted)),
+      (λ all. ap (λ (r : CheckResult). r .refusal) (reported-numbers p (all .0) (all .1)) ∙ firstOr-none (λ n. n) (p .measures) (all .2)),
+    )
 
-pub result-below : (bound n second N R : ℕ) → n < bound → (fillsAll n ≡ true → (second < bound) × (N < bound) × (R < bound)) →
-    Below bound (resultOf n second N R)
-unfolding resultOf
-result-below bound n second N R small filled =
-    cond-cases (Below bound) (fillsAll n)
-    (λ fills. filled-below bound n second N R small (filled fills .0) (filled fills .1) (filled fills .2))
-    (λ _. refused-below bound n small)
+pub spare-is-signed : SpareIsSigned
+spare-is-signed p =
+    result-cases p SpareSigned (λ _. true) (every-any (front p)) (λ n _. refused-spare n)
+    (λ _ _. filled-spare (firstOf (p .measures)) (p .second) (p .load) (p .resistance))
 
-module _ (inRange : Bool) (limits measures : List (ℕ × Bool)) where
-  -- Which refusal
-
-  pub refusal-out-of-range : inRange ≡ false → firstOf (inOrder inRange limits measures) ≡ 2
-  unfolding firstOf
-  refusal-out-of-range failed = rw failed
-
-  pub refusal-limit : inRange ≡ true → (firstOf limits ≡ 0 → ⊥) → firstOf (inOrder inRange limits measures) ≡ firstOf limits
-  unfolding firstOf
-  refusal-limit passed beyond = rw passed (firstOf-first limits measures beyond)
-
-  pub refusal-measured : inRange ≡ true → NoneApplies limits → firstOf (inOrder inRange limits measures) ≡ firstOf measures
-  unfolding firstOf
-  refusal-measured passed none = rw passed (firstOf-second limits measures none)
-
-  limit-unfilled : T (everyNumber (λ n. eqb n 0 || not (fillsAll n)) limits) → (firstOf limits ≡ 0 → ⊥) → fillsAll (firstOf limits) ≡ false
-  limit-unfilled unfilled beyond =
-      let number = firstOf limits in
-      let unfilled-number = firstOf-every (λ n. eqb n 0 || not (fillsAll n)) limits tt unfilled in
-      not-T-false (fillsAll number) (or-other (eqb number 0) (not (fillsAll number)) (ne-eqb number 0 beyond) unfilled-number)
-
-  -- Which result
-
-  module _ (second N R : ℕ) where
-    pub result-out-of-range : inRange ≡ false → resultOf (firstOf (inOrder inRange limits measures)) second N R ≡ refusedWith 2
-    unfolding resultOf
-    result-out-of-range failed = rw (refusal-out-of-range failed)
-
-    pub result-limit : T (everyNumber (λ n. eqb n 0 || not (fillsAll n)) limits) → inRange ≡ true → (firstOf limits ≡ 0 → ⊥) →
-        resultOf (firstOf (inOrder inRange limits measures)) second N R ≡ refusedWith (firstOf limits)
-    unfolding resultOf
-    result-limit unfilled passed beyond = rw (refusal-limit passed beyond, limit-unfilled unfilled beyond)
-
-    pub result-measured : T (everyNumber fillsAll measures) → inRange ≡ true → NoneApplies limits →
-        resultOf (firstOf (inOrder inRange limits measures)) second N R ≡ filledWith (firstOf measures) second N R
-    unfolding resultOf
-    result-measured filling passed none =
-        rw (refusal-measured passed none, T-true (fillsAll (firstOf measures)) (firstOf-every fillsAll measures tt filling))
-
-  -- Only a record in range and within every limit has all five numbers filled.
-  pub filled-only : T (numbered limits) → T (everyNumber (λ n. eqb n 0 || not (fillsAll n)) limits) →
-      fillsAll (firstOf (inOrder inRange limits measures)) ≡ true → (inRange ≡ true) × NoneApplies limits
-  filled-only positive unfilled filled = go inRange refl (ℕ-discrete (firstOf limits) 0)
-    where
-      go : (b : Bool) → inRange ≡ b → Dec (firstOf limits ≡ 0) → (inRange ≡ true) × NoneApplies limits
-      go false failed _ = absurd (false≢true (sym (ap fillsAll (refusal-out-of-range failed)) ∙ filled))
-      go true passed (yes none) = (passed, none-firstOf limits positive none)
-      go true passed (no beyond) =
-          absurd (false≢true (sym (limit-unfilled unfilled beyond) ∙ sym (ap fillsAll (refusal-limit passed beyond)) ∙ filled))
-
-  -- Every number of the result is below a bound that the refusals keep, and that the other numbers keep within the ranges and every limit.
-  pub result-bounded : (bound second N R : ℕ) → 0 < bound → T (everyNumber (λ n. ltb n bound) (inOrder inRange limits measures)) →
-      T (numbered limits) → T (everyNumber (λ n. eqb n 0 || not (fillsAll n)) limits) →
-      (inRange ≡ true → NoneApplies limits → (second < bound) × (N < bound) × (R < bound)) →
-      Below bound (resultOf (firstOf (inOrder inRange limits measures)) second N R)
-  result-bounded bound second N R positive small numbers unfilled within =
-      let order = inOrder inRange limits measures in
-      result-below bound (firstOf order) second N R (ltb→lt (firstOf order) bound (firstOf-every (λ n. ltb n bound) order (lt→ltb 0 bound positive) small))
-      (λ filled.
-      let reached = filled-only numbers unfilled filled in
-      within (reached .0) (reached .1))
-
-  -- Accepted exactly when the record is in range and none of the refusals applies.
-  pub accepted-exactly : T (numbered limits) → T (numbered measures) →
-      (firstOf (inOrder inRange limits measures) ≡ 0) ↔ ((inRange ≡ true) × NoneApplies limits × NoneApplies measures)
-  accepted-exactly positive-limits positive-measures =
-      let positive = numbered-append limits measures positive-limits positive-measures in (
-        (λ accepted.
-            let none = none-firstOf (inOrder inRange limits measures) positive accepted in
-            let parts = NoneApplies-split limits measures (none .1) in
-            (not-false inRange (none .0), parts .0, parts .1)),
-        (λ all. firstOf-none (inOrder inRange limits measures) (ap not (all .0), NoneApplies-append limits measures (all .1) (all .2))),
-      )
+pub result-is-bounded : ResultIsBounded
+result-is-bounded p bound positive every within =
+    let test : ℕ → Bool = λ n. ltb n bound in
+    result-cases p (Below bound) test (and-left (everyNumber test (front p)) (everyNumber test (p .measures)) every)
+    (λ n is. refused-below bound n (ltb-true n bound is))
+    (λ passed none.
+    let below = within passed none in
+    filled-below bound (firstOf (p .measures)) (p .second) (p .load) (p .resistance)
+    (ltb-true (firstOf (p .measures)) bound
+    (firstOr-cases (λ n. n) (λ n. ltb n bound ≡ true) test (p .measures) (and-right (everyNumber test (front p)) (everyNumber test (p .measures)) every)
+    (λ n is. is) (λ _. lt-ltb 0 bound positive)))
+    (below .0) (below .1) (below .2))

@@ -1,10 +1,11 @@
 -- Laws of tests and choices.
 use Prim.Native.Nat.{ℕ, _≤_}
-use mathlib.Core.Bool.{Bool, true, false, false≢true, cond, not, _&&_, _||_}
-use mathlib.Core.Path.{_≡_, _∙_, refl, sym, subst}
+use mathlib.Core.Bool.{Bool, true, false, false≢true, cond, _&&_, _||_}
+use mathlib.Core.List.{List, [], _∷_}
+use mathlib.Core.Path.{_≡_, _∙_, refl, sym}
 use native.Mathlib.Omega.{arith}
 use borrow.Author.Tests.{ltb-true, lt-ltb}
-use lib.Dec.{T, ltb}
+use lib.Dec.{ltb}
 
 -- What holds of both answers, each under its test, holds of the choice.
 pub cond-cases {ℓ} : {A : Type ℓ} (P : A → Type 0) (b : Bool) {x y : A} → (b ≡ true → P x) → (b ≡ false → P y) → P (cond b x y)
@@ -29,23 +30,6 @@ pub cond-same {ℓ} : {A : Type ℓ} (P : A → A → Type 0) (b : Bool) {x y x'
 cond-same P true left right = left refl
 cond-same P false left right = right refl
 
--- A choice between two tests, as the code writes it without a branch.
-pub cond-or : (b x y : Bool) → cond b x y ≡ ((b && x) || (not b && y))
-cond-or true true y = refl
-cond-or true false y = refl
-cond-or false x y = refl
-
-pub T-true : (b : Bool) → T b → b ≡ true
-T-true true _ = refl
-T-true false impossible = absurd impossible
-
-pub not-T-false : (b : Bool) → T (not b) → b ≡ false
-not-T-false true impossible = absurd impossible
-not-T-false false _ = refl
-
-pub or-other : (a b : Bool) → a ≡ false → T (a || b) → T b
-or-other a b isnt either = subst (λ (x : Bool). T (x || b)) isnt either
-
 -- The parts of a joined test
 
 pub and-left : (a b : Bool) → (a && b) ≡ true → a ≡ true
@@ -67,6 +51,22 @@ or-left false b neither = refl
 pub or-right : (a b : Bool) → (a || b) ≡ false → b ≡ false
 or-right true b neither = absurd (false≢true (sym neither))
 or-right false b neither = neither
+
+-- Tests joined from left to right, as code writes them
+
+abbrev pub chain : Bool → List Bool → Bool
+chain a [] = a
+chain a (b ∷ bs) = chain (a && b) bs
+
+abbrev pub AllTrue : List Bool → Type 0
+AllTrue [] = Unit {0}
+AllTrue (b ∷ bs) = (b ≡ true) × AllTrue bs
+
+pub chain-true : (a : Bool) (bs : List Bool) → chain a bs ≡ true → (a ≡ true) × AllTrue bs
+chain-true a [] passed = (passed, tt)
+chain-true a (b ∷ bs) passed =
+    let parts = chain-true (a && b) bs passed in
+    (and-left a b (parts .0), (and-right a b (parts .0), parts .1))
 
 -- One test implies another
 

@@ -1,10 +1,11 @@
 -- Laws of fractions: order, rounding, and how each operation follows the order.
 -- Rounding up has two laws, at or above and least; rounding down has two, at or below and greatest. The others follow from these.
-use Prim.Native.Nat.{ℕ, _+_, _-_, _*_, _/_, _%_, _≤_, _<_, min, max}
+use Prim.Native.Nat.{ℕ, zero, suc, _+_, _-_, _*_, _/_, _%_, _≤_, _<_, min, max}
 use mathlib.Core.Path.{_≡_, _∙_, sym, ap₂}
 use native.Mathlib.Omega.{arith}
 use native.Mathlib.Nat.{
   mul-le-mul,
+  mul-le-mul-left,
   mul-le-mul-right,
   le-of-mul-le-mul-right,
   lt-of-mul-lt-mul-right,
@@ -26,7 +27,7 @@ use native.Mathlib.Nat.{
 }
 use borrow.Author.Tests.{leb-true, leb-false}
 use lib.Dec.{leb}
-use Rattle.basis.specs.Fraction.{Fraction, _÷_, whole, _≼_, _≺_, _≈_, times, minus, smaller, larger, floor, ceil, LeastAtOrAbove, LessThanOneBelow}
+use Rattle.basis.specs.Fraction.{Fraction, _÷_, whole, _≼_, _≺_, _≈_, times, minus, smaller, larger, floor, ceil, nearest, LeastAtOrAbove, LessThanOneBelow, NearestTo}
 use Rattle.basis.proofs.Choice.{cond-cases}
 
 -- Order
@@ -103,6 +104,42 @@ floor-equal f g pf pg same = le-antisymm (floor-mono f g pf pg (≈-≼ f g same
 pub floor-rounds-down : (f : Fraction) → 0 < f .den → LessThanOneBelow (floor f) f
 floor-rounds-down f pos = record { at-most = floor-below f; less-than-one-below = floor-close f pos }
 
+-- Rounding to the nearest: down, of f and a half.
+
+abbrev half-more : Fraction → Fraction
+half-more f = (2 * f .num + f .den) ÷ (2 * f .den)
+
+pub nearest-mono : (f g : Fraction) → 0 < f .den → 0 < g .den → f ≼ g → nearest f ≤ nearest g
+unfolding nearest
+nearest-mono f g pf pg below = floor-mono (half-more f) (half-more g) (omega arith) (omega arith) (omega (arith, mul-le-mul-left 4 below))
+
+pub nearest-equal : (f g : Fraction) → 0 < f .den → 0 < g .den → f ≈ g → nearest f ≡ nearest g
+nearest-equal f g pf pg same = le-antisymm (nearest-mono f g pf pg (≈-≼ f g same)) (nearest-mono g f pg pf (≈-≽ f g same))
+
+pub nearest-whole : (n : ℕ) → nearest (whole n) ≡ n
+unfolding nearest floor
+nearest-whole n = omega arith
+
+pub nearest-most : (f : Fraction) (m : ℕ) → 0 < f .den → f ≼ whole m → nearest f ≤ m
+nearest-most f m pf below = omega (arith, nearest-mono f (whole m) pf (omega arith) below, nearest-whole m)
+
+half-below : (n d m : ℕ) → n * (2 * d) ≤ 2 * m + d → (n * 2 - 1 * 1) * d ≤ m * (1 * 2)
+half-below zero d m above = omega arith
+half-below (suc n) d m above =
+    let odd : suc n * 2 - 1 * 1 ≡ 2 * n + 1 = omega arith in
+    rw odd (omega arith)
+
+pub nearest-rounds : (f : Fraction) → 0 < f .den → NearestTo (nearest f) f
+unfolding nearest minus
+nearest-rounds f pos =
+    let n : ℕ = floor (half-more f) in
+    let low : n * (2 * f .den) ≤ 2 * f .num + f .den = omega (arith, floor-below (half-more f)) in
+    let high : 2 * f .num + f .den < (n + 1) * (2 * f .den) = omega (arith, floor-close (half-more f) (omega arith)) in
+    record {
+      at-most-half-above = half-below n (f .den) (f .num) low;
+      less-than-half-below = omega arith;
+    }
+
 -- The smaller and the larger
 
 pub smaller-cases : (P : Fraction → Type 0) (f g : Fraction) → (f ≼ g → P f) → (g ≼ f → P g) → P (smaller f g)
@@ -152,12 +189,6 @@ ceil-larger f g pf pg =
     larger-cases (λ x. ceil x ≡ max (ceil f) (ceil g)) f g
     (λ below. sym (max-eq-left (ceil-mono g f pg pf below)))
     (λ below. sym (max-eq-right (ceil-mono f g pf pg below)))
-
-pub floor-smaller : (f g : Fraction) → 0 < f .den → 0 < g .den → floor (smaller f g) ≡ min (floor f) (floor g)
-floor-smaller f g pf pg =
-    smaller-cases (λ x. floor x ≡ min (floor f) (floor g)) f g
-    (λ below. sym (min-eq-left (floor-mono f g pf pg below)))
-    (λ below. sym (min-eq-right (floor-mono g f pg pf below)))
 
 -- Products and differences
 

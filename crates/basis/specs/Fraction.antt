@@ -54,7 +54,11 @@ floor f = f .num / f .den
 unfoldable pub ceil : Fraction → ℕ
 ceil f = (f .num + (f .den - 1)) / f .den
 
--- What "rounded up" and "rounded down" promise of a whole number.
+-- Rounded to the nearest whole number, an exact half upwards.
+unfoldable pub nearest : Fraction → ℕ
+nearest f = floor ((2 * f .num + f .den) ÷ (2 * f .den))
+
+-- What each rounding promises of a whole number.
 
 -- The least whole number at or above f.
 pub record LeastAtOrAbove (n : ℕ) (f : Fraction) : Type 0 where
@@ -65,3 +69,8 @@ pub record LeastAtOrAbove (n : ℕ) (f : Fraction) : Type 0 where
 pub record LessThanOneBelow (n : ℕ) (f : Fraction) : Type 0 where
   pub at-most : whole n ≼ f
   pub less-than-one-below : f ≺ whole (n + 1)
+
+-- At most a half above f, and less than a half below it.
+pub record NearestTo (n : ℕ) (f : Fraction) : Type 0 where
+  pub at-most-half-above : minus (whole n) (1 ÷ 2) ≼ f
+  pub less-than-half-below : f ≺ ((2 * n + 1) ÷ 2)

@@ -1,9 +1,7 @@
 -- "A result has five numbers: refusal (0 accepted), E or for a cellar the need, N, resistance, and spare = resistance - N, signed."
 use Prim.Native.Nat.{ℕ, _≤_, _<_}
-use mathlib.Core.Bool.{Bool, cond, _||_}
 use mathlib.Core.Logic.{_↔_}
 use mathlib.Core.Path.{_≡_}
-use lib.Dec.{eqb}
 use lib.IntN.{pos, _-ℤ_, natAbs}
 use lib.Signed.{_≤ℤ_}
 use Rattle.basis.specs.declared.CheckResult.{CheckResult}
@@ -15,14 +13,6 @@ refusedWith n = record { refusal = n; second = 0; load = 0; resistance = 0; spar
 -- All five numbers filled.
 abbrev pub filledWith : ℕ → ℕ → ℕ → ℕ → CheckResult
 filledWith n second N R = record { refusal = n; second = second; load = N; resistance = R; spare = pos R -ℤ pos N }
-
--- "Refusals 13, 18 and 19 fill all five", and so does an accepted record.
-abbrev pub fillsAll : ℕ → Bool
-fillsAll n = eqb n 0 || eqb n 13 || eqb n 18 || eqb n 19
-
--- The five numbers of every record: its refusal, and the other four where that fills them.
-unfoldable pub resultOf : ℕ → ℕ → ℕ → ℕ → CheckResult
-resultOf n second N R = cond (fillsAll n) (filledWith n second N R) (refusedWith n)
 
 -- "refusal (0 accepted)"
 abbrev pub Accepted : CheckResult → Type 0

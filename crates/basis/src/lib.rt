@@ -1,7 +1,9 @@
-// What both kinds of wall share: the result, the design load, and rounding up.
+// What both kinds of wall share: the result, the first refusal that applies, and rounding.
+ghost use mathlib.Core.List.{[], _∷_};
 ghost use mathlib.Core.Path.{_≡_};
 ghost use Rattle.basis.specs.Fraction.{_÷_, ceil};
-ghost use Rattle.basis.specs.Load.{designLoad};
+ghost use Rattle.basis.specs.Load.{roundedLoad};
+ghost use Rattle.basis.specs.Refusal.{firstOr};
 ghost use Rattle.basis.specs.Result.{refusedWith, filledWith};
 
 // The five numbers of a result, in the order in which they are printed.
@@ -47,6 +49,16 @@ impl CheckResult {
     }
 }
 
+// The number of a refusal where it applies, else that of the later ones.
+pub fn first_refusal(number: u64, applies: bool, later: u64) -> u64
+    ensures { λ first. ⌜ first ≡ firstOr (λ n. n) ((number, applies) ∷ []) later ⌝ }
+{
+    if applies {
+        return number;
+    }
+    later
+}
+
 // The quotient rounded up; 0 where the divisor is 0.
 pub fn ceil_div(dividend: u64, divisor: u64) -> u64
     ensures { λ quotient. ⌜ quotient ≡ ceil (dividend ÷ divisor) ⌝ }
@@ -60,19 +72,12 @@ pub fn ceil_div(dividend: u64, divisor: u64) -> u64
     dividend / divisor + 1
 }
 
-// The load factors of dead and imposed load, in hundredths.
-const DEAD_FACTOR: u64 = 135;
+// Loads with their factors are in hundredths of N/m.
+const LOAD_UNIT: u64 = 100;
 
-const IMPOSED_FACTOR: u64 = 150;
-
-const FACTOR_UNIT: u64 = 100;
-
-// The design load of a dead and an imposed load. They are u32, so that the sum always fits.
-pub fn design_load(dead: u32, imposed: u32) -> u64
-    ensures { λ load. ⌜ load ≡ designLoad dead imposed ⌝ }
+// A load in hundredths of N/m, rounded to N/m.
+pub fn rounded_load(hundredths: u64) -> u64
+    ensures { λ load. ⌜ load ≡ roundedLoad (hundredths ÷ 100) ⌝ }
 {
-    ceil_div(
-        DEAD_FACTOR * (dead as u64) + IMPOSED_FACTOR * (imposed as u64),
-        FACTOR_UNIT,
-    )
+    ceil_div(hundredths, LOAD_UNIT)
 }
