@@ -7,13 +7,12 @@ use native.Mathlib.Nat.{mul-le-mul, mul-pos}
 use borrow.Author.Tests.{eqb-true}
 use lib.Dec.{leb, eqb}
 use Rattle.basis.specs.Fraction.{Fraction, _÷_, whole, ceil}
-use Rattle.basis.proofs.Choice.{cond-cases}
+use Rattle.basis.proofs.Choice.{cond-cases, and-left}
 use Rattle.basis.proofs.Fraction.{ceil-larger, ceil-whole, larger-den}
-use Rattle.basis.proofs.Range.{and-parts}
 use Rattle.storey.specs.declared.StoreyWall.{StoreyWall}
 use Rattle.storey.specs.Range.{inRange}
 use Rattle.storey.specs.BucklingLength.{bearingSuffices, factor, twoSides, threeSides, fourSides, lengthOf, CurvedInputs, LengthInputs, exactLength}
-use Rattle.storey.proofs.Range.{range-bounds, distance-bounds}
+use Rattle.storey.proofs.Range.{in-ranges, distance-bounds}
 
 -- Products
 
@@ -51,12 +50,12 @@ factor-most t a = cond-cases (λ r. r ≤ 20) (bearingSuffices t a) (λ _. thick
 
 module _ (w : StoreyWall) (passed : inRange w ≡ true) where
   pub product-most : factor (w .thickness) (w .bearing) * w .height ≤ 400000
-  product-most = mul-le-mul (factor-most (w .thickness) (w .bearing)) (range-bounds w passed .height-most)
+  product-most = mul-le-mul {m₂ = 20000} (factor-most (w .thickness) (w .bearing)) (omega (arith, in-ranges w passed))
 
   pub length-inputs : eqb (w .held) 2 ≡ false → LengthInputs (w .height) (w .distance) (factor (w .thickness) (w .bearing) * w .height)
   length-inputs further =
       record {
-        height-most = range-bounds w passed .height-most;
+        height-most = omega (arith, in-ranges w passed);
         distance-least = distance-bounds w passed further .0;
         distance-most = distance-bounds w passed further .1;
         product-most = product-most;
@@ -64,7 +63,7 @@ module _ (w : StoreyWall) (passed : inRange w ≡ true) where
 
 -- A wall held on n sides, n not 2, is held on more than two sides.
 pub held-further : (held n : ℕ) (near : Bool) → (eqb held n && near) ≡ true → eqb n 2 ≡ false → eqb held 2 ≡ false
-held-further held n near both further = rw (eqb-true held n (and-parts (eqb held n) near both .0)) further
+held-further held n near both further = rw (eqb-true held n (and-left (eqb held n) near both)) further
 
 -- The exact length of a record in range has a denominator above 0.
 pub exact-length-den : (w : StoreyWall) → inRange w ≡ true → 0 < exactLength w .den

@@ -10,14 +10,13 @@ use borrow.Author.Tests.{leb-true, leb-false, le-leb, eqb-true, eq-eqb}
 use lib.Dec.{leb, ltb, eqb}
 use Rattle.basis.specs.Fraction.{Fraction, _÷_, whole, _≼_, times, minus}
 use Rattle.basis.specs.Refusal.{NoneApplies}
-use Rattle.basis.proofs.Choice.{cond-pair, cond-same, Implies, implies-false, implies-and, implies-or, above-grows, below-falls}
+use Rattle.basis.proofs.Choice.{cond-pair, cond-same, and-left, Implies, implies-and, implies-or, above-grows, below-falls}
 use Rattle.basis.proofs.Fraction.{≼-refl, larger-mono, times-mono, minus-mono, minus-den, smaller-mono, ceil-mono, floor-mono}
-use Rattle.basis.proofs.Load.{load-grows}
-use Rattle.basis.proofs.Range.{and-parts}
+use Rattle.basis.proofs.Refusal.{EachImplies, done, _then_, none-kept}
 use Rattle.storey.specs.declared.StoreyWall.{StoreyWall}
 use Rattle.storey.specs.Range.{inRange}
 use Rattle.storey.specs.BucklingLength.{bearingSuffices, factor, twoSides, threeSides, fourSides, lengthOf, exactLength, bucklingLength}
-use Rattle.storey.specs.Resistance.{atMidHeight, supportFactor, atSupport, reduction, unreduced, exactResistance, resistance}
+use Rattle.storey.specs.Resistance.{atMidHeight, supportFactor, atSupport, reductionFifths, reduction, unreduced, exactResistance, resistance}
 use Rattle.storey.specs.Load.{load}
 use Rattle.storey.specs.Limits.{
   limits,
@@ -25,6 +24,7 @@ use Rattle.storey.specs.Limits.{
   areaTooSmall,
   closelyHeld,
   unfitForUse,
+  heightLimit,
   tooHigh,
   floorLoadTooGreat,
   buildingTooHigh,
@@ -33,10 +33,12 @@ use Rattle.storey.specs.Limits.{
   tooWeak,
   tooSlender,
 }
-use Rattle.storey.specs.Comparison.{NoWorse}
-use Rattle.storey.proofs.Range.{range-bounds, distance-bounds}
+use Rattle.storey.specs.Comparison.{withEightOf, NoWorse}
+use Rattle.storey.proofs.Range.{in-ranges, distance-bounds}
+use Rattle.storey.proofs.Limits.{no-lower-refl, above-falls}
+use Rattle.storey.proofs.Load.{load-grows}
 use Rattle.storey.proofs.BucklingLength.{thickness-factor-most, factor-most, sum-of-squares, held-further, exact-length-den}
-use Rattle.storey.proofs.Resistance.{mid-height-den, at-support-den, resistance-den}
+use Rattle.storey.proofs.Resistance.{support-factor-den, mid-height-den, at-support-den, resistance-den}
 
 -- Factor: a deeper bearing never raises r
 
@@ -121,7 +123,7 @@ length-falls held t h' h c k' k least lower less product agree =
     cond-same (λ (f g : Fraction). f ≼ g) (eqb held 3 && leb c (15 * t))
     (λ three.
     three-sides-or-same h' h c k' k (least (held-further held 3 (leb c (15 * t)) three refl)) lower less product
-    (agree (eqb-true held 3 (and-parts (eqb held 3) (leb c (15 * t)) three .0))))
+    (agree (eqb-true held 3 (and-left (eqb held 3) (leb c (15 * t)) three))))
     (λ _. cond-same (λ (f g : Fraction). f ≼ g) (eqb held 4 && leb c (30 * t))
     (λ _. four-sides-grow h' h c k' k lower less product)
     (λ _. omega arith))
@@ -147,126 +149,75 @@ support-factor-grows support L L' shorter =
     (minus-mono (whole 9600) (whole L) (whole 9600) (whole L') (≼-refl (whole 9600)) (omega arith)))
     (λ _. ≼-refl (cond (eqb support 3) (whole 1998) (whole 5400)))
 
-support-grows : (support L L' a a' F F' : ℕ) → L' ≤ L → a ≤ a' → F ≤ F' → atSupport support L a F ≼ atSupport support L' a' F'
+support-grows : (a a' F F' : ℕ) (m m' : Fraction) → m ≼ m' → a ≤ a' → F ≤ F' → atSupport a F m ≼ atSupport a' F' m'
 unfolding atSupport
-support-grows support L L' a a' F F' shorter deeper stronger =
-    times-mono ((17 * F * a) ÷ 18000) (supportFactor support L) ((17 * F' * a') ÷ 18000) (supportFactor support L')
-    (mul-le-mul-right 18000 (mul-le-mul (mul-le-mul-left 17 stronger) deeper)) (support-factor-grows support L L' shorter)
+support-grows a a' F F' m m' greater deeper stronger =
+    times-mono ((17 * F * a) ÷ 18000) m ((17 * F' * a') ÷ 18000) m' (mul-le-mul-right 18000 (mul-le-mul (mul-le-mul-left 17 stronger) deeper)) greater
 
-pub unreduced-grows : (support L L' t a a' F F' : ℕ) (E E' : Fraction) → 1 ≤ t → 0 < E .den → L' ≤ L → a ≤ a' → F ≤ F' → E' ≼ E →
-    unreduced support L t a F E ≼ unreduced support L' t a' F' E'
+unreduced-grows : (support t a a' F F' : ℕ) (m m' E E' : Fraction) → 1 ≤ t → 0 < m .den → 0 < E .den → m ≼ m' → a ≤ a' → F ≤ F' → E' ≼ E →
+    unreduced support t a F m E ≼ unreduced support t a' F' m' E'
 unfolding unreduced
-unreduced-grows support L L' t a a' F F' E E' least positive shorter deeper stronger less =
+unreduced-grows support t a a' F F' m m' E E' least positive-m positive greater deeper stronger less =
     let middle = mid-height-grows t a a' F F' E E' deeper stronger less in
     cond-same (λ (f g : Fraction). f ≼ g) (eqb support 1)
     (λ _. middle)
-    (λ _. smaller-mono (atMidHeight t a F E) (atSupport support L a F) (atMidHeight t a' F' E') (atSupport support L' a' F')
-    (mid-height-den t a F E least positive) (at-support-den support L a F) middle (support-grows support L L' a a' F F' shorter deeper stronger))
+    (λ _. smaller-mono (atMidHeight t a F E) (atSupport a F m) (atMidHeight t a' F' E') (atSupport a' F' m')
+    (mid-height-den t a F E least positive) (at-support-den a F m positive-m) middle (support-grows a a' F F' m m' greater deeper stronger))
 
 -- Two records, the second no worse than the first
 
--- The first record with the eight numbers of the second. All else being equal, it is the second.
-changed : StoreyWall → StoreyWall → StoreyWall
-changed first second =
-    record {
-      usage = first .usage;
-      thickness = first .thickness;
-      height = second .height;
-      length = first .length;
-      held = first .held;
-      distance = first .distance;
-      support = first .support;
-      span = second .span;
-      bearing = second .bearing;
-      strength = second .strength;
-      bonded = first .bonded;
-      dead = second .dead;
-      imposed = second .imposed;
-      floorload = second .floorload;
-      building = second .building;
-      storeys = first .storeys;
-    }
-
-changed-is : (first second : StoreyWall) → NoWorse first second → changed first second ≡ second
-unfolding changed
-changed-is first second pair = λ i.
-    record {
-      usage = pair .usage i;
-      thickness = pair .thickness i;
-      height = second .height;
-      length = pair .length i;
-      held = pair .held i;
-      distance = pair .distance i;
-      support = pair .support i;
-      span = second .span;
-      bearing = second .bearing;
-      strength = second .strength;
-      bonded = pair .bonded i;
-      dead = second .dead;
-      imposed = second .imposed;
-      floorload = second .floorload;
-      building = second .building;
-      storeys = pair .storeys i;
-    }
-
+-- All else being equal, the second record is the first with eight of its numbers changed: what is proved of that holds of the second.
 module _ (first second : StoreyWall) (pair : NoWorse first second) (passed : inRange first ≡ true) (passed' : inRange second ≡ true) where
-  changed-in-range : inRange (changed first second) ≡ true
-  changed-in-range = ap inRange (changed-is first second pair) ∙ passed'
+  abbrev changed : StoreyWall
+  changed = withEightOf second first
 
-  deeper-within : second .bearing ≤ first .thickness
-  unfolding changed
-  deeper-within = range-bounds (changed first second) changed-in-range .bearing-most
+  changed-in-range : inRange changed ≡ true
+  changed-in-range = ap inRange (pair .all-else) ∙ passed'
 
-  exact-length-falls : exactLength (changed first second) ≼ exactLength first
-  unfolding changed exactLength
+  exact-length-falls : exactLength changed ≼ exactLength first
+  unfolding exactLength
   exact-length-falls =
       let t = first .thickness in
+      let within = in-ranges changed changed-in-range in
       length-falls (first .held) t (second .height) (first .height) (first .distance)
       (factor t (second .bearing) * second .height) (factor t (first .bearing) * first .height)
       (λ further. distance-bounds first passed further .0)
       (pair .height)
-      (mul-le-mul (factor-falls t (first .bearing) (second .bearing) (pair .bearing) deeper-within) (pair .height))
+      (mul-le-mul (factor-falls t (first .bearing) (second .bearing) (pair .bearing) (omega arith)) (pair .height))
       (mul-le-mul-right (first .height) (factor-most t (first .bearing)))
       (λ three far.
       let same = pair .three-sides three far in
       (same .0, ap₂ (λ (a h : ℕ). factor t a * h) (same .1) (same .0)))
 
-  changed-length-falls : bucklingLength (changed first second) ≤ bucklingLength first
+  length-kept : bucklingLength changed ≤ bucklingLength first
   unfolding bucklingLength
-  changed-length-falls =
-      ceil-mono (exactLength (changed first second)) (exactLength first)
-      (exact-length-den (changed first second) changed-in-range) (exact-length-den first passed) exact-length-falls
+  length-kept =
+      ceil-mono (exactLength changed) (exactLength first) (exact-length-den changed changed-in-range) (exact-length-den first passed) exact-length-falls
 
-  changed-resistance-grows : resistance first ≤ resistance (changed first second)
-  unfolding changed resistance exactResistance
+  changed-resistance-grows : resistance first ≤ resistance changed
+  unfolding resistance exactResistance reductionFifths
   changed-resistance-grows =
       let E = whole (bucklingLength first) in
-      let E' = whole (bucklingLength (changed first second)) in
-      let share = reduction (first .thickness) (first .length) (first .bonded) in
-      let shorter : E' ≼ E = mul-le-mul-right 1 changed-length-falls in
-      floor-mono (exactResistance first E) (exactResistance (changed first second) E')
-      (resistance-den first passed E (omega arith)) (resistance-den (changed first second) changed-in-range E' (omega arith))
-      (times-mono share (unreduced (first .support) (first .span) (first .thickness) (first .bearing) (first .strength) E)
-      share (unreduced (first .support) (second .span) (first .thickness) (second .bearing) (second .strength) E') (≼-refl share)
-      (unreduced-grows (first .support) (first .span) (second .span) (first .thickness) (first .bearing) (second .bearing) (first .strength) (second .strength) E E'
-      (range-bounds first passed .thickness-least) (omega arith) (pair .span) (pair .bearing) (pair .strength) shorter))
+      let E' = whole (bucklingLength changed) in
+      let m = supportFactor (first .support) (first .span) in
+      let m' = supportFactor (first .support) (second .span) in
+      let shorter : E' ≼ E = mul-le-mul-right 1 length-kept in
+      floor-mono (exactResistance first E) (exactResistance changed E')
+      (resistance-den first passed E (omega arith)) (resistance-den changed changed-in-range E' (omega arith))
+      (times-mono (reduction first) (unreduced (first .support) (first .thickness) (first .bearing) (first .strength) m E)
+      (reduction first) (unreduced (first .support) (first .thickness) (second .bearing) (second .strength) m' E') (≼-refl (reduction first))
+      (unreduced-grows (first .support) (first .thickness) (first .bearing) (second .bearing) (first .strength) (second .strength) m m' E E'
+      (omega (arith, in-ranges first passed)) (support-factor-den (first .support) (first .span)) (omega arith)
+      (support-factor-grows (first .support) (first .span) (second .span) (pair .span)) (pair .bearing) (pair .strength) shorter))
 
   -- Each limit that the first keeps, the second keeps.
 
-  high-kept : Implies (tooHigh (changed first second)) (tooHigh first)
-  unfolding changed tooHigh
-  high-kept =
-      let t = first .thickness in
-      let h = first .height in
-      let h' = second .height in
-      implies-or (ltb t 240 && ltb 2750 h') (leb 240 t && not (eqb (first .usage) 1) && ltb (12 * t) h')
-      (ltb t 240 && ltb 2750 h) (leb 240 t && not (eqb (first .usage) 1) && ltb (12 * t) h)
-      (implies-and (ltb t 240) (ltb 2750 h') (ltb t 240) (ltb 2750 h) (λ is. is) (above-grows 2750 h' h (pair .height)))
-      (implies-and (leb 240 t && not (eqb (first .usage) 1)) (ltb (12 * t) h') (leb 240 t && not (eqb (first .usage) 1)) (ltb (12 * t) h)
-      (λ is. is) (above-grows (12 * t) h' h (pair .height)))
+  high-kept : Implies (tooHigh changed) (tooHigh first)
+  unfolding tooHigh heightLimit
+  high-kept = above-falls (heightLimit first) (heightLimit changed) (first .height) (second .height) (no-lower-refl (heightLimit first)) (pair .height)
 
-  floor-load-kept : Implies (floorLoadTooGreat (changed first second)) (floorLoadTooGreat first)
-  unfolding changed floorLoadTooGreat
+  floor-load-kept : Implies (floorLoadTooGreat changed) (floorLoadTooGreat first)
+  unfolding floorLoadTooGreat
   floor-load-kept =
       let q = first .floorload in
       let q' = second .floorload in
@@ -277,14 +228,14 @@ module _ (first second : StoreyWall) (pair : NoWorse first second) (passed : inR
       (implies-and (ltb 3000 q' && outer) thin (ltb 3000 q && outer) thin
       (implies-and (ltb 3000 q') outer (ltb 3000 q) outer (above-grows 3000 q' q (pair .floorload)) (λ is. is)) (λ is. is))
 
-  span-kept : Implies (spanTooLong (changed first second)) (spanTooLong first)
-  unfolding changed spanTooLong
+  span-kept : Implies (spanTooLong changed) (spanTooLong first)
+  unfolding spanTooLong
   span-kept =
       implies-and (ltb 6000 (second .span)) (not (eqb (first .support) 4)) (ltb 6000 (first .span)) (not (eqb (first .support) 4))
       (above-grows 6000 (second .span) (first .span) (pair .span)) (λ is. is)
 
-  bearing-kept : Implies (bearingTooShallow (changed first second)) (bearingTooShallow first)
-  unfolding changed bearingTooShallow
+  bearing-kept : Implies (bearingTooShallow changed) (bearingTooShallow first)
+  unfolding bearingTooShallow
   bearing-kept =
       let t = first .thickness in
       let a = first .bearing in
@@ -299,53 +250,28 @@ module _ (first second : StoreyWall) (pair : NoWorse first second) (passed : inR
       (implies-and (not special) (ltb (2 * a') t) (not special) (ltb (2 * a) t) (λ is. is)
       (below-falls t (2 * a') (2 * a) (mul-le-mul-left 2 (pair .bearing))))
 
-  changed-limits-kept : NoneApplies (limits first) → NoneApplies (limits (changed first second))
-  unfolding changed tooThin areaTooSmall closelyHeld unfitForUse buildingTooHigh tooWeak tooSlender
-  changed-limits-kept none =
-      let rest = none .1 .1 .1 in (
-        none .0,
-        (
-          none .1 .0,
-          (
-            none .1 .1 .0,
-            (
-              implies-false (tooHigh (changed first second)) (tooHigh first) high-kept (rest .0),
-              (
-                implies-false (floorLoadTooGreat (changed first second)) (floorLoadTooGreat first) floor-load-kept (rest .1 .0),
-                (
-                  implies-false (ltb 20000 (second .building)) (ltb 20000 (first .building)) (above-grows 20000 (second .building) (first .building) (pair .building)) (rest .1 .1 .0),
-                  (
-                    implies-false (spanTooLong (changed first second)) (spanTooLong first) span-kept (rest .1 .1 .1 .0),
-                    (
-                      implies-false (bearingTooShallow (changed first second)) (bearingTooShallow first) bearing-kept (rest .1 .1 .1 .1 .0),
-                      (
-                        implies-false (ltb (second .strength) 180) (ltb (first .strength) 180) (below-falls 180 (second .strength) (first .strength) (pair .strength)) (rest .1 .1 .1 .1 .1 .0),
-                        (
-                          implies-false (ltb (270 * first .thickness) (bucklingLength (changed first second))) (ltb (270 * first .thickness) (bucklingLength first))
-                              (above-grows (270 * first .thickness) (bucklingLength (changed first second)) (bucklingLength first) changed-length-falls) (rest .1 .1 .1 .1 .1 .1 .0),
-                          tt,
-                        ),
-                      ),
-                    ),
-                  ),
-                ),
-              ),
-            ),
-          ),
-        ),
-      )
+  each-kept : EachImplies (limits first) (limits changed)
+  unfolding tooThin areaTooSmall closelyHeld unfitForUse buildingTooHigh tooWeak tooSlender
+  each-kept =
+      (λ is. is)
+      then (λ is. is)
+      then (λ is. is)
+      then high-kept
+      then floor-load-kept
+      then above-grows 20000 (second .building) (first .building) (pair .building)
+      then span-kept
+      then bearing-kept
+      then below-falls 180 (second .strength) (first .strength) (pair .strength)
+      then above-grows (270 * first .thickness) (bucklingLength changed) (bucklingLength first) length-kept
+      then done
 
   -- The laws for the second record itself.
 
-  pub buckling-length-falls : bucklingLength second ≤ bucklingLength first
-  buckling-length-falls = subst (λ (w : StoreyWall). bucklingLength w ≤ bucklingLength first) (changed-is first second pair) changed-length-falls
-
   pub resistance-grows : resistance first ≤ resistance second
-  resistance-grows = subst (λ (w : StoreyWall). resistance first ≤ resistance w) (changed-is first second pair) changed-resistance-grows
+  resistance-grows = subst (λ (w : StoreyWall). resistance first ≤ resistance w) (pair .all-else) changed-resistance-grows
 
   pub limits-kept : NoneApplies (limits first) → NoneApplies (limits second)
-  limits-kept none = subst (λ (w : StoreyWall). NoneApplies (limits w)) (changed-is first second pair) (changed-limits-kept none)
+  limits-kept none = subst (λ (w : StoreyWall). NoneApplies (limits w)) (pair .all-else) (none-kept each-kept none)
 
   pub load-falls : load second ≤ load first
-  unfolding load
-  load-falls = load-grows (pair .dead) (pair .imposed)
+  load-falls = load-grows second first (pair .dead) (pair .imposed)

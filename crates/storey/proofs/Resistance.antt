@@ -1,7 +1,7 @@
 -- Laws of the resistance: that its products fit, that the code's quotients are the definition's, and how it follows the record.
 use Prim.Native.Nat.{ℕ, _-_, _*_, _/_, _≤_, _<_, min}
 use mathlib.Core.Bool.{Bool, true, false, _||_}
-use mathlib.Core.Path.{_≡_, _∙_, refl, sym, ap, ap₂}
+use mathlib.Core.Path.{_≡_, _∙_, refl, sym, ap}
 use native.Mathlib.Omega.{arith}
 use native.Mathlib.Nat.{mul-le-mul, mul-le-mul-right, mul-one, sub-eq-zero-of-le, zero-div, mul-zero}
 use lib.Dec.{eqb, ltb}
@@ -26,18 +26,18 @@ use Rattle.basis.proofs.Fraction.{
 use Rattle.storey.specs.declared.StoreyWall.{StoreyWall}
 use Rattle.storey.specs.Range.{inRange}
 use Rattle.storey.specs.BucklingLength.{bucklingLength}
-use Rattle.storey.proofs.Range.{range-bounds}
+use Rattle.storey.proofs.Range.{in-ranges}
 use Rattle.storey.specs.Resistance.{
   atMidHeight,
   supportFactor,
   atSupport,
+  reductionFifths,
   reduction,
   unreduced,
   exactResistance,
   resistance,
   MidHeightInputs,
   SupportInputs,
-  Fifths,
   SupportFactor,
 }
 
@@ -58,7 +58,7 @@ module _ (fifths t a F E : ℕ) (inputs : MidHeightInputs fifths t a F E) where
   pub mid-height-product-most : fifths * (17 * F) * (850000 * a * t - 11 * (E * E)) ≤ 361250000000000000
   mid-height-product-most = mul-le-mul {n₂ = 425000} {m₂ = 850000000000} strength-part-most (omega (arith, bearing-part-most))
 
-module _ (fifths a F m : ℕ) (inputs : SupportInputs fifths a F) (most : m ≤ 5400) where
+module _ (fifths m a F : ℕ) (inputs : SupportInputs fifths m a F) where
   pub strength-bearing-most : 17 * F * a ≤ 85000000
   strength-bearing-most =
       let product : F * a ≤ 5000000 = mul-le-mul (inputs .strength-most) (inputs .bearing-most) in
@@ -68,7 +68,7 @@ module _ (fifths a F m : ℕ) (inputs : SupportInputs fifths a F) (most : m ≤ 
   support-part-most = mul-le-mul {n₂ = 5} {m₂ = 85000000} (inputs .fifths-most) strength-bearing-most
 
   pub support-product-most : fifths * (17 * F * a) * m ≤ 2295000000000
-  support-product-most = mul-le-mul support-part-most most
+  support-product-most = mul-le-mul support-part-most (inputs .factor-most)
 
 -- The code's quotients
 
@@ -103,9 +103,9 @@ support-factor-den support L =
     (λ _. smaller-den (whole 5400) (minus (whole 9600) (whole L)) (omega arith) (minus-den (whole 9600) (whole L) (omega arith) (omega arith)))
     (λ _. cond-cases (λ (f : Fraction). 0 < f .den) (eqb support 3) (λ _. omega arith) (λ _. omega arith))
 
-pub at-support-den : (support L a F : ℕ) → 0 < atSupport support L a F .den
+pub at-support-den : (a F : ℕ) (m : Fraction) → 0 < m .den → 0 < atSupport a F m .den
 unfolding atSupport
-at-support-den support L a F = times-den ((17 * F * a) ÷ 18000) (supportFactor support L) (omega arith) (support-factor-den support L)
+at-support-den a F m positive = times-den ((17 * F * a) ÷ 18000) m (omega arith) positive
 
 pub mid-height-den : (t a F : ℕ) (E : Fraction) → 1 ≤ t → 0 < E .den → 0 < atMidHeight t a F E .den
 unfolding atMidHeight
@@ -113,75 +113,62 @@ mid-height-den t a F E least positive =
     times-den ((17 * F) ÷ (3000000 * t)) (minus (whole (850000 * a * t)) (times (whole 11) (times E E))) (omega arith)
     (minus-den (whole (850000 * a * t)) (times (whole 11) (times E E)) (omega arith) (times-den (whole 11) (times E E) (omega arith) (times-den E E positive positive)))
 
-pub reduction-den : (t w bonded : ℕ) → 0 < reduction t w bonded .den
-unfolding reduction
-reduction-den t w bonded = cond-cases (λ (f : Fraction). 0 < f .den) (ltb (w * t) 100000 || eqb bonded 1) (λ _. omega arith) (λ _. omega arith)
-
 -- At the support, in fifths, with m as a whole number.
-support-whole : (fifths part m : ℕ) → fifths * part * m / 90000 ≡ floor (times (fifths ÷ 5) (times (part ÷ 18000) (whole m)))
-unfolding floor times
-support-whole fifths part m = ap (λ (n : ℕ). n / 90000) (omega arith)
+pub support-quotient : (fifths m a F : ℕ) → fifths * (17 * F * a) * m / 90000 ≡ floor (times (fifths ÷ 5) (atSupport a F (whole m)))
+unfolding floor times atSupport
+support-quotient fifths m a F = ap (λ (n : ℕ). n / 90000) (omega arith)
 
 -- The same with m as the fraction of the definition, which has the same value.
-pub support-quotient : (fifths support L a F m : ℕ) → whole m ≈ supportFactor support L →
-    fifths * (17 * F * a) * m / 90000 ≡ floor (times (fifths ÷ 5) (atSupport support L a F))
+support-same : (fifths m a F : ℕ) (f : Fraction) → 0 < f .den → whole m ≈ f →
+    floor (times (fifths ÷ 5) (atSupport a F (whole m))) ≡ floor (times (fifths ÷ 5) (atSupport a F f))
 unfolding atSupport
-support-quotient fifths support L a F m value =
+support-same fifths m a F f positive value =
     let part : Fraction = (17 * F * a) ÷ 18000 in
-    let exact : Fraction = supportFactor support L in
-    support-whole fifths (17 * F * a) m
-    ∙ floor-equal (times (fifths ÷ 5) (times part (whole m))) (times (fifths ÷ 5) (times part exact))
+    floor-equal (times (fifths ÷ 5) (times part (whole m))) (times (fifths ÷ 5) (times part f))
     (times-den (fifths ÷ 5) (times part (whole m)) (omega arith) (times-den part (whole m) (omega arith) (omega arith)))
-    (times-den (fifths ÷ 5) (times part exact) (omega arith) (at-support-den support L a F))
-    (times-same (fifths ÷ 5) (times part (whole m)) (fifths ÷ 5) (times part exact) refl (times-same part (whole m) part exact refl value))
-
--- A factor in fifths may stand for the reduction of the same value.
-reduced-same : (fifths : ℕ) (f g : Fraction) → Fifths fifths f → 0 < f .den → 0 < g .den → floor (times (fifths ÷ 5) g) ≡ floor (times f g)
-reduced-same fifths f g same pf pg =
-    floor-equal (times (fifths ÷ 5) g) (times f g) (times-den (fifths ÷ 5) g (omega arith) pg) (times-den f g pf pg)
-    (times-same (fifths ÷ 5) g f g (same .value) refl)
+    (times-den (fifths ÷ 5) (times part f) (omega arith) (times-den part f (omega arith) positive))
+    (times-same (fifths ÷ 5) (times part (whole m)) (fifths ÷ 5) (times part f) refl (times-same part (whole m) part f refl value))
 
 -- The reported resistance from the two rounded parts of the code: the one at mid-height for support 1, else the smaller of both.
-module _ (w : StoreyWall) (fifths : ℕ) (least : 1 ≤ w .thickness)
-    (same : Fifths fifths (reduction (w .thickness) (w .length) (w .bonded))) where
-  middle-alone : eqb (w .support) 1 ≡ true →
-      floor (times (fifths ÷ 5) (atMidHeight (w .thickness) (w .bearing) (w .strength) (whole (bucklingLength w)))) ≡ resistance w
-  unfolding resistance exactResistance unreduced
-  middle-alone intermediate =
-      let share = reduction (w .thickness) (w .length) (w .bonded) in
-      let middle = atMidHeight (w .thickness) (w .bearing) (w .strength) (whole (bucklingLength w)) in
-      rw intermediate
-      (reduced-same fifths share middle same (reduction-den (w .thickness) (w .length) (w .bonded))
-      (mid-height-den (w .thickness) (w .bearing) (w .strength) (whole (bucklingLength w)) least (omega arith)))
+module _ (w : StoreyWall) (least : 1 ≤ w .thickness) where
+  abbrev middle : Fraction
+  middle = atMidHeight (w .thickness) (w .bearing) (w .strength) (whole (bucklingLength w))
 
-  smaller-of-both : eqb (w .support) 1 ≡ false →
-      min (floor (times (fifths ÷ 5) (atMidHeight (w .thickness) (w .bearing) (w .strength) (whole (bucklingLength w)))))
-      (floor (times (fifths ÷ 5) (atSupport (w .support) (w .span) (w .bearing) (w .strength)))) ≡ resistance w
+  abbrev factor : Fraction
+  factor = supportFactor (w .support) (w .span)
+
+  abbrev end : Fraction
+  end = atSupport (w .bearing) (w .strength) factor
+
+  middle-den : 0 < middle .den
+  middle-den = mid-height-den (w .thickness) (w .bearing) (w .strength) (whole (bucklingLength w)) least (omega arith)
+
+  middle-alone : eqb (w .support) 1 ≡ true → floor (times (reduction w) middle) ≡ resistance w
+  unfolding resistance exactResistance unreduced
+  middle-alone intermediate = rw intermediate
+
+  smaller-of-both : eqb (w .support) 1 ≡ false → min (floor (times (reduction w) middle)) (floor (times (reduction w) end)) ≡ resistance w
   unfolding resistance exactResistance unreduced
   smaller-of-both further =
-      let share = reduction (w .thickness) (w .length) (w .bonded) in
-      let middle = atMidHeight (w .thickness) (w .bearing) (w .strength) (whole (bucklingLength w)) in
-      let end = atSupport (w .support) (w .span) (w .bearing) (w .strength) in
-      let ps = reduction-den (w .thickness) (w .length) (w .bonded) in
-      let pm = mid-height-den (w .thickness) (w .bearing) (w .strength) (whole (bucklingLength w)) least (omega arith) in
-      let pe = at-support-den (w .support) (w .span) (w .bearing) (w .strength) in
       rw further
-      (ap₂ min (reduced-same fifths share middle same ps pm) (reduced-same fifths share end same ps pe)
-      ∙ sym (floor-times-smaller share middle end ps pm pe))
+      (sym (floor-times-smaller (reduction w) middle end (omega arith) middle-den
+      (at-support-den (w .bearing) (w .strength) factor (support-factor-den (w .support) (w .span)))))
 
-  module _ (m e : ℕ)
-      (middle : m ≡ floor (times (fifths ÷ 5) (atMidHeight (w .thickness) (w .bearing) (w .strength) (whole (bucklingLength w)))))
-      (end : e ≡ floor (times (fifths ÷ 5) (atSupport (w .support) (w .span) (w .bearing) (w .strength)))) where
-    pub resistance-middle : (eqb (w .support) 1 || ltb m e) ≡ true → m ≡ resistance w
+  module _ (m middle-is end-is : ℕ) (value : whole m ≈ factor) (rounded-middle : middle-is ≡ floor (times (reduction w) middle))
+      (rounded-end : end-is ≡ floor (times (reduction w) (atSupport (w .bearing) (w .strength) (whole m)))) where
+    end-rounded : end-is ≡ floor (times (reduction w) end)
+    end-rounded = rounded-end ∙ support-same (reductionFifths w) m (w .bearing) (w .strength) factor (support-factor-den (w .support) (w .span)) value
+
+    pub resistance-middle : (eqb (w .support) 1 || ltb middle-is end-is) ≡ true → middle-is ≡ resistance w
     resistance-middle chosen =
-        cond-cases {A = Bool} (λ _. m ≡ resistance w) (eqb (w .support) 1) {x = true} {y = true}
-        (λ alone. middle ∙ middle-alone alone)
-        (λ further. omega (arith, smaller-of-both further, ltb-true m e (rw further at chosen)))
+        cond-cases {A = Bool} (λ _. middle-is ≡ resistance w) (eqb (w .support) 1) {x = true} {y = true}
+        (λ alone. rounded-middle ∙ middle-alone alone)
+        (λ further. omega (arith, smaller-of-both further, end-rounded, ltb-true middle-is end-is (rw further at chosen)))
 
-    pub resistance-end : (eqb (w .support) 1 || ltb m e) ≡ false → e ≡ resistance w
+    pub resistance-end : (eqb (w .support) 1 || ltb middle-is end-is) ≡ false → end-is ≡ resistance w
     resistance-end chosen =
-        let further = or-left (eqb (w .support) 1) (ltb m e) chosen in
-        omega (arith, smaller-of-both further, ltb-false m e (or-right (eqb (w .support) 1) (ltb m e) chosen))
+        let further = or-left (eqb (w .support) 1) (ltb middle-is end-is) chosen in
+        omega (arith, smaller-of-both further, end-rounded, ltb-false middle-is end-is (or-right (eqb (w .support) 1) (ltb middle-is end-is) chosen))
 
 -- Bound: the strength and the bearing alone, without the slenderness.
 
@@ -201,46 +188,52 @@ mid-height-most t a F E least bearing strength =
     (times-mono outer (minus all lost) outer all (≼-refl outer) (minus-below all lost))
     (mid-height-all t a F bearing strength)
 
-reduction-most : (t w bonded : ℕ) → reduction t w bonded ≼ whole 1
-unfolding reduction
-reduction-most t w bonded = cond-cases (λ (f : Fraction). f ≼ whole 1) (ltb (w * t) 100000 || eqb bonded 1) (λ _. omega arith) (λ _. omega arith)
+-- 4 or 5 fifths.
+pub fifths-most : (w : StoreyWall) → reductionFifths w ≤ 5
+unfolding reductionFifths
+fifths-most w = cond-cases (λ (n : ℕ). n ≤ 5) (ltb (w .length * w .thickness) 100000 || eqb (w .bonded) 1) (λ _. omega arith) (λ _. omega arith)
 
-pub unreduced-den : (support L t a F : ℕ) (E : Fraction) → 1 ≤ t → 0 < E .den → 0 < unreduced support L t a F E .den
-unfolding unreduced
-unreduced-den support L t a F E least positive =
-    let pm = mid-height-den t a F E least positive in
-    cond-cases (λ (f : Fraction). 0 < f .den) (eqb support 1)
-    (λ _. pm)
-    (λ _. smaller-den (atMidHeight t a F E) (atSupport support L a F) pm (at-support-den support L a F))
+module _ (support t a F : ℕ) (m E : Fraction) (least : 1 ≤ t) (positive-m : 0 < m .den) (positive : 0 < E .den) where
+  pub unreduced-den : 0 < unreduced support t a F m E .den
+  unfolding unreduced
+  unreduced-den =
+      let pm = mid-height-den t a F E least positive in
+      cond-cases (λ (f : Fraction). 0 < f .den) (eqb support 1)
+      (λ _. pm)
+      (λ _. smaller-den (atMidHeight t a F E) (atSupport a F m) pm (at-support-den a F m positive-m))
 
-unreduced-most : (support L t a F : ℕ) (E : Fraction) → 1 ≤ t → a ≤ 1000 → F ≤ 5000 → 0 < E .den → unreduced support L t a F E ≼ whole 25000000
-unfolding unreduced
-unreduced-most support L t a F E least bearing strength positive =
-    let middle = atMidHeight t a F E in
-    let end = atSupport support L a F in
-    let most = mid-height-most t a F E least bearing strength in
-    cond-cases (λ (f : Fraction). f ≼ whole 25000000) (eqb support 1)
-    (λ _. most)
-    (λ _. ≼-trans (smaller middle end) middle (whole 25000000) (mid-height-den t a F E least positive) (smaller-left middle end) most)
+  unreduced-most : a ≤ 1000 → F ≤ 5000 → unreduced support t a F m E ≼ whole 25000000
+  unfolding unreduced
+  unreduced-most bearing strength =
+      let middle = atMidHeight t a F E in
+      let end = atSupport a F m in
+      let most = mid-height-most t a F E least bearing strength in
+      cond-cases (λ (f : Fraction). f ≼ whole 25000000) (eqb support 1)
+      (λ _. most)
+      (λ _. ≼-trans (smaller middle end) middle (whole 25000000) (mid-height-den t a F E least positive) (smaller-left middle end) most)
 
-pub resistance-den : (w : StoreyWall) → inRange w ≡ true → (E : Fraction) → 0 < E .den → 0 < exactResistance w E .den
-unfolding exactResistance
-resistance-den w passed E positive =
-    times-den (reduction (w .thickness) (w .length) (w .bonded)) (unreduced (w .support) (w .span) (w .thickness) (w .bearing) (w .strength) E)
-    (reduction-den (w .thickness) (w .length) (w .bonded))
-    (unreduced-den (w .support) (w .span) (w .thickness) (w .bearing) (w .strength) E (range-bounds w passed .thickness-least) positive)
+module _ (w : StoreyWall) (passed : inRange w ≡ true) where
+  abbrev m : Fraction
+  m = supportFactor (w .support) (w .span)
 
-exact-most : (w : StoreyWall) → inRange w ≡ true → (E : Fraction) → 0 < E .den → exactResistance w E ≼ whole 25000000
-unfolding exactResistance times
-exact-most w passed E positive =
-    let bounds = range-bounds w passed in
-    times-mono (reduction (w .thickness) (w .length) (w .bonded)) (unreduced (w .support) (w .span) (w .thickness) (w .bearing) (w .strength) E)
-    (whole 1) (whole 25000000) (reduction-most (w .thickness) (w .length) (w .bonded))
-    (unreduced-most (w .support) (w .span) (w .thickness) (w .bearing) (w .strength) E (bounds .thickness-least)
-    (omega (arith, bounds .bearing-most, bounds .thickness-most)) (bounds .strength-most) positive)
+  pub resistance-den : (E : Fraction) → 0 < E .den → 0 < exactResistance w E .den
+  unfolding exactResistance
+  resistance-den E positive =
+      times-den (reduction w) (unreduced (w .support) (w .thickness) (w .bearing) (w .strength) m E) (omega arith)
+      (unreduced-den (w .support) (w .thickness) (w .bearing) (w .strength) m E (omega (arith, in-ranges w passed))
+      (support-factor-den (w .support) (w .span)) positive)
 
-pub resistance-most : (w : StoreyWall) → inRange w ≡ true → resistance w ≤ 25000000
-unfolding resistance
-resistance-most w passed =
-    let E = whole (bucklingLength w) in
-    floor-most (exactResistance w E) 25000000 (resistance-den w passed E (omega arith)) (exact-most w passed E (omega arith))
+  exact-most : (E : Fraction) → 0 < E .den → exactResistance w E ≼ whole 25000000
+  unfolding exactResistance times
+  exact-most E positive =
+      let all = in-ranges w passed in
+      times-mono (reduction w) (unreduced (w .support) (w .thickness) (w .bearing) (w .strength) m E)
+      (whole 1) (whole 25000000) (omega (arith, fifths-most w))
+      (unreduced-most (w .support) (w .thickness) (w .bearing) (w .strength) m E (omega arith) (support-factor-den (w .support) (w .span)) positive
+      (omega arith) (omega arith))
+
+  pub resistance-most : resistance w ≤ 25000000
+  unfolding resistance
+  resistance-most =
+      let E = whole (bucklingLength w) in
+      floor-most (exactResistance w E) 25000000 (resistance-den E (omega arith)) (exact-most E (omega arith))

@@ -1,27 +1,25 @@
--- Demand 2 for a storey wall, as claims about the definitions; their proofs stand in proofs/Claims.antt.
-use Prim.Native.Nat.{_≤_}
+-- Demand 2 for a storey wall, as claims about the definitions; their proofs stand in proofs/Claims.antt. What holds of any check stands in
+-- basis, what holds of both kinds in walls.
+use Prim.Native.Nat.{ℕ, _≤_}
 use mathlib.Core.Bool.{true}
 use mathlib.Core.Logic.{_↔_}
 use mathlib.Core.Path.{_≡_}
 use Rattle.basis.specs.Fraction.{whole, LeastAtOrAbove, LessThanOneBelow}
-use Rattle.basis.specs.Load.{exactLoad}
-use Rattle.basis.specs.Refusal.{firstOf, NoneApplies}
-use Rattle.basis.specs.Result.{filledWith, Accepted, Below, SpareSigned}
+use Rattle.basis.specs.Refusal.{firstOr, NoneApplies}
+use Rattle.basis.specs.Result.{refusedWith, Accepted}
+use Rattle.basis.specs.Check.{reported}
 use Rattle.storey.specs.declared.StoreyWall.{StoreyWall}
+use Rattle.storey.specs.declared.Assessment.the-variants.{Within}
 use Rattle.storey.specs.Range.{inRange}
 use Rattle.storey.specs.BucklingLength.{exactLength, bucklingLength}
 use Rattle.storey.specs.Resistance.{exactResistance, resistance}
 use Rattle.storey.specs.Load.{load}
-use Rattle.storey.specs.Limits.{limits}
-use Rattle.storey.specs.Check.{measures, check}
+use Rattle.storey.specs.Limits.{slendernessLimit, limits}
+use Rattle.storey.specs.Check.{parts, check, assessment, behind, Assessed}
 
 -- E is the exact buckling length rounded up.
 abbrev pub LengthRoundedUp : Type 0
 LengthRoundedUp = (w : StoreyWall) → inRange w ≡ true → LeastAtOrAbove (bucklingLength w) (exactLength w)
-
--- N is 1.35G + 1.5Q rounded up.
-abbrev pub LoadRoundedUp : Type 0
-LoadRoundedUp = (w : StoreyWall) → LeastAtOrAbove (load w) (exactLoad (w .dead) (w .imposed))
 
 -- "That resistance never exceeds the exact fraction (0 where negative) and is less than 1 N/m below it."
 abbrev pub ResistanceRoundedDown : Type 0
@@ -32,16 +30,10 @@ ResistanceRoundedDown =
 abbrev pub AcceptedExactly : Type 0
 AcceptedExactly = (w : StoreyWall) → Accepted (check w) ↔ ((inRange w ≡ true) × NoneApplies (limits w) × (load w ≤ resistance w))
 
--- Within the ranges and every limit, the numbers reported are E, N and the resistance.
-abbrev pub ReportedNumbers : Type 0
-ReportedNumbers =
-    (w : StoreyWall) → inRange w ≡ true → NoneApplies (limits w) →
-    check w ≡ filledWith (firstOf (measures w)) (bucklingLength w) (load w) (resistance w)
+-- The check stands on the assessment: behind it come 12 and what is reported.
+abbrev pub CheckBehindAssessment : Type 0
+CheckBehindAssessment = (w : StoreyWall) → check w ≡ behind (firstOr refusedWith (slendernessLimit w) (reported (parts w))) (assessment w)
 
--- "spare = resistance − N, signed", not negative exactly when the load is at most the resistance.
-abbrev pub SpareIsSigned : Type 0
-SpareIsSigned = (w : StoreyWall) → SpareSigned (check w)
-
--- Every reported number is below 10^9.
-abbrev pub ResultIsBounded : Type 0
-ResultIsBounded = (w : StoreyWall) → Below 1000000000 (check w)
+-- The numbers of an assessment are E, N and the reduction of a record in range that no refusal up to 11 applies to.
+abbrev pub AssessmentNumbers : Type 0
+AssessmentNumbers = (w : StoreyWall) (E N fifths : ℕ) → assessment w ≡ Within E N fifths → Assessed w E N fifths

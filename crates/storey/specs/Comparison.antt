@@ -2,6 +2,14 @@
 use Prim.Native.Nat.{_*_, _≤_, _<_}
 use mathlib.Core.Path.{_≡_}
 use Rattle.storey.specs.declared.StoreyWall.{StoreyWall}
+use Rattle.storey.specs.Record.{withHeight, withSpan, withBearing, withStrength, withDead, withImposed, withFloorLoad, withBuilding}
+
+-- A record with G, Q, q, L, H, h, F and a of another.
+abbrev pub withEightOf : (other w : StoreyWall) → StoreyWall
+withEightOf other w =
+    let loads = withFloorLoad (withImposed (withDead w (other .dead)) (other .imposed)) (other .floorload) in
+    let heights = withHeight (withBuilding (withSpan loads (other .span)) (other .building)) (other .height) in
+    withBearing (withStrength heights (other .strength)) (other .bearing)
 
 -- "the second with no greater G, Q, q, L, H, h, no lower F, no shallower a, any of these at once, all else equal.
 -- (On three sides h and a must agree where the first's h exceeds 3c.)"
@@ -14,12 +22,6 @@ pub record NoWorse (first second : StoreyWall) : Type 0 where
   pub height : second .height ≤ first .height
   pub strength : first .strength ≤ second .strength
   pub bearing : first .bearing ≤ second .bearing
-  pub usage : first .usage ≡ second .usage
-  pub thickness : first .thickness ≡ second .thickness
-  pub length : first .length ≡ second .length
-  pub held : first .held ≡ second .held
-  pub distance : first .distance ≡ second .distance
-  pub support : first .support ≡ second .support
-  pub bonded : first .bonded ≡ second .bonded
-  pub storeys : first .storeys ≡ second .storeys
+  -- "all else equal": "every other number of the record"
+  pub all-else : withEightOf second first ≡ second
   pub three-sides : first .held ≡ 3 → 3 * first .distance < first .height → (first .height ≡ second .height) × (first .bearing ≡ second .bearing)

@@ -1,7 +1,7 @@
 -- Document 01, "Heights" and the table of refusals, 3 to 12.
 use Prim.Native.Nat.{ℕ, _*_}
-use mathlib.Core.Bool.{Bool, not, _&&_, _||_}
-use mathlib.Core.List.{List, [], _∷_}
+use mathlib.Core.Bool.{Bool, false, cond, not, _&&_, _||_}
+use mathlib.Core.List.{List, [], _∷_, _++_}
 use lib.Dec.{leb, ltb, eqb}
 use Rattle.storey.specs.declared.StoreyWall.{StoreyWall}
 use Rattle.storey.specs.BucklingLength.{bucklingLength}
@@ -25,11 +25,25 @@ unfitForUse w =
     || (eqb (w .usage) 4 && ltb 1 (w .storeys))
     || (eqb (w .usage) 3 && ltb (w .thickness) 150 && (ltb 2 (w .storeys) || not (closelyHeld w)))
 
--- 6: "h above its limit". "Heights: use 1 with t < 240: 2750; use 1 with t ≥ 240: no limit; other uses with t < 240: 2750; with t ≥ 240: 12t."
+-- A greatest clear height, or none.
+pub data HeightLimit : Type 0 where
+  unlimited : HeightLimit
+  atMost : ℕ → HeightLimit
+
+-- "Heights: use 1 with t < 240: 2750; use 1 with t ≥ 240: no limit; other uses with t < 240: 2750; with t ≥ 240: 12t."
+unfoldable pub heightLimit : StoreyWall → HeightLimit
+heightLimit w =
+    cond (eqb (w .usage) 1)
+    (cond (ltb (w .thickness) 240) (atMost 2750) unlimited)
+    (cond (ltb (w .thickness) 240) (atMost 2750) (atMost (12 * w .thickness)))
+
+abbrev pub above : HeightLimit → (h : ℕ) → Bool
+above unlimited h = false
+above (atMost n) h = ltb n h
+
+-- 6: "h above its limit"
 unfoldable pub tooHigh : StoreyWall → Bool
-tooHigh w =
-    (ltb (w .thickness) 240 && ltb 2750 (w .height))
-    || (leb 240 (w .thickness) && not (eqb (w .usage) 1) && ltb (12 * w .thickness) (w .height))
+tooHigh w = above (heightLimit w) (w .height)
 
 -- 7: "q > 5000, or q > 3000 with use not 1 and t < 175"
 unfoldable pub floorLoadTooGreat : StoreyWall → Bool
@@ -58,9 +72,9 @@ tooWeak w = ltb (w .strength) 180
 unfoldable pub tooSlender : StoreyWall → Bool
 tooSlender w = ltb (270 * w .thickness) (bucklingLength w)
 
--- "The first that applies is given": refusals 3 to 12 in order.
-abbrev pub limits : StoreyWall → List (ℕ × Bool)
-limits w =
+-- "The first that applies is given": refusals 3 to 12 in order. Those up to 11 stand alone too, for a check that has no 12.
+abbrev pub limitsUpTo11 : StoreyWall → List (ℕ × Bool)
+limitsUpTo11 w =
     (3, tooThin w)
     ∷ (4, areaTooSmall w)
     ∷ (5, unfitForUse w)
@@ -70,5 +84,10 @@ limits w =
     ∷ (9, spanTooLong w)
     ∷ (10, bearingTooShallow w)
     ∷ (11, tooWeak w)
-    ∷ (12, tooSlender w)
     ∷ []
+
+abbrev pub slendernessLimit : StoreyWall → List (ℕ × Bool)
+slendernessLimit w = (12, tooSlender w) ∷ []
+
+abbrev pub limits : StoreyWall → List (ℕ × Bool)
+limits w = limitsUpTo11 w ++ slendernessLimit w

@@ -9,16 +9,13 @@ mul-strength-part : tie.Need-mul-strength-part
 mul-strength-part c = search needs
 
 mul-strength-part-2 : tie.Need-mul-strength-part-2
-mul-strength-part-2 c = omega (arith, strength-bearing-most _ _ _ 0 (c .pre) (omega arith))
+mul-strength-part-2 c = omega (arith, strength-bearing-most _ _ _ _ (c .pre))
 
 mul-strength-part-3 : tie.Need-mul-strength-part-3
-mul-strength-part-3 c = omega (arith, support-part-most _ _ _ 0 (c .pre) (omega arith))
-
-support-factor-requires : tie.Need-support-factor-requires
-support-factor-requires c κs = search needs
+mul-strength-part-3 c = omega (arith, support-part-most _ _ _ _ (c .pre))
 
 mul-result : tie.Need-mul-result
-mul-result c = omega (arith, support-product-most _ _ _ _ (c .before .pre) (c .support-factor .ensures .most))
+mul-result c = omega (arith, support-product-most _ _ _ _ (c .pre))
 
 mul-result-2 : tie.Need-mul-result-2
 mul-result-2 c = search needs
@@ -27,17 +24,9 @@ div-result : tie.Need-div-result
 div-result c = search needs
 
 returns : tie.Need-returns
-returns c = support-quotient _ _ _ _ _ _ (c .support-factor .ensures .value)
+returns c = support-quotient (c .args .fifths) (c .args .m) (c .args .bearing) (c .args .strength)
 
 pub at-support-spec : {M : Type 1} → statement M
 at-support-spec =
     tie.close
-    (tie.spec
-    mul-strength-part
-    mul-strength-part-2
-    mul-strength-part-3
-    support-factor-requires
-    mul-result
-    mul-result-2
-    div-result
-    returns)
+    (tie.spec mul-strength-part mul-strength-part-2 mul-strength-part-3 mul-result mul-result-2 div-result returns)

@@ -3,7 +3,7 @@ use borrow.Author.Needs.{needs}
 use native.Mathlib.Omega.{arith}
 use mathlib.Core.Path.{_∙_, refl}
 use Rattle.storey.specs.BucklingLength.{twoSides, lengthOf, exactLength, bucklingLength}
-use Rattle.storey.proofs.Range.{range-bounds}
+use Rattle.storey.proofs.Range.{in-ranges}
 use Rattle.storey.proofs.BucklingLength.{product-most, length-inputs, held-further}
 use Rattle.storey.proofs.StoreyWall.buckling_length.Statement.{statement}
 use Rattle.storey.proofs.StoreyWall.buckling_length.Tie as tie
@@ -15,7 +15,7 @@ mul-product : tie.Need-mul-product
 mul-product c = rw (c .factor .ensures) (omega (arith, product-most (c .before .args .self) (c .before .pre)))
 
 mul-if1 : tie.Need-mul-if1
-mul-if1 c = omega (arith, range-bounds (c .before .before .args .self) (c .before .before .pre) .thickness-most)
+mul-if1 c = omega (arith, in-ranges (c .before .before .args .self) (c .before .before .pre))
 
 three-sides-requires : tie.Need-three-sides-requires
 three-sides-requires c κs =
@@ -28,7 +28,7 @@ unfolding bucklingLength exactLength lengthOf
 returns c = c .three-sides .ensures ∙ rw (c .before .before .before .factor .ensures, c .before .if1 .taken)
 
 mul-if2 : tie.Need-mul-if2
-mul-if2 c = omega (arith, range-bounds (c .before .before .before .before .args .self) (c .before .before .before .before .pre) .thickness-most)
+mul-if2 c = omega (arith, in-ranges (c .before .before .before .before .args .self) (c .before .before .before .before .pre))
 
 four-sides-requires : tie.Need-four-sides-requires
 four-sides-requires c κs =

@@ -1,58 +1,42 @@
--- `StoreyWall::check` meets its contract: the range first, then the limits, then load and resistance.
+-- `StoreyWall::check` meets its contract: the cases of the assessment.
 use borrow.Author.Needs.{needs}
 use mathlib.Core.Path.{_∙_, sym}
-use Rattle.basis.proofs.Refusal.{none-firstOf}
-use Rattle.storey.specs.Limits.{limits}
-use Rattle.storey.proofs.Check.{check-out-of-range, check-limit}
+use Rattle.storey.proofs.Check.{check-refused, assessment-numbers}
 use Rattle.storey.proofs.StoreyWall.check.Statement.{statement}
 use Rattle.storey.proofs.StoreyWall.check.Tie as tie
 
-in-range-requires : tie.Need-in-range-requires
-in-range-requires c κs = search needs
+assess-requires : tie.Need-assess-requires
+assess-requires c κs = search needs
 
-buckling-length-requires : tie.Need-buckling-length-requires
-buckling-length-requires c κs = sym (c .before .in-range .ensures) ∙ c .if1 .taken
-
-limit-requires : tie.Need-limit-requires
-limit-requires c κs = record { in-range = sym (c .before .before .in-range .ensures) ∙ c .before .if1 .taken; length = c .buckling-length .ensures }
-
-measured-requires : tie.Need-measured-requires
-measured-requires c κs =
-    record {
-      in-range = sym (c .before .before .before .before .in-range .ensures) ∙ c .before .before .before .if1 .taken;
-      length = c .before .before .buckling-length .ensures;
-      within-limits = none-firstOf (limits (c .before .before .before .before .before .args .self)) tt (sym (c .before .limit .ensures) ∙ c .if2 .taken);
-    }
-
-returns : tie.Need-returns
-returns c = search needs
+enum-known-number : tie.Need-enum-known-number
+enum-known-number c = search needs
 
 refused-requires : tie.Need-refused-requires
 refused-requires c κs = search needs
 
-returns-2 : tie.Need-returns-2
-returns-2 c =
+enum-known-buckling : tie.Need-enum-known-buckling
+enum-known-buckling c = search needs
+
+check-assessed-requires : tie.Need-check-assessed-requires
+check-assessed-requires c κs =
+    assessment-numbers _ _ _ _ (sym (c .before .before .before .assess .ensures) ∙ c .before .buckling .given .1)
+
+returns : tie.Need-returns
+returns c =
     c .refused .ensures
-    ∙ rw (c .before .before .limit .ensures)
-    (sym (check-limit (c .before .before .before .before .before .before .args .self) (sym (c .before .before .before .before .before .in-range .ensures) ∙ c .before .before .before .before .if1 .taken)
-    (λ none. c .before .if2 .left (c .before .before .limit .ensures ∙ none))))
+    ∙ sym (check-refused _ _ (sym (c .before .before .before .before .assess .ensures) ∙ c .before .before .number .given .1))
 
-refused-requires-2 : tie.Need-refused-requires-2
-refused-requires-2 c κs = search needs
-
-returns-3 : tie.Need-returns-3
-returns-3 c = c .refused2 .ensures ∙ sym (check-out-of-range (c .before .before .before .args .self) (sym (c .before .before .in-range .ensures) ∙ c .before .if1 .left))
+returns-2 : tie.Need-returns-2
+returns-2 c = search needs
 
 pub check-spec : {M : Type 1} → statement M
 check-spec =
     tie.close
     (tie.spec
-    in-range-requires
-    buckling-length-requires
-    limit-requires
-    measured-requires
-    returns
+    assess-requires
+    enum-known-number
     refused-requires
-    returns-2
-    refused-requires-2
-    returns-3)
+    enum-known-buckling
+    check-assessed-requires
+    returns
+    returns-2)
