@@ -3,7 +3,5 @@ pub mod Range
 pub mod RequiredLoad
 pub mod Resistance
 pub mod Load
-pub mod Limits
-pub mod Check
 pub mod Claims
 pub mod Comparison

@@ -5,7 +5,7 @@ use mathlib.Core.Path.{_≡_}
 use native.Mathlib.Omega.{arith}
 use native.Mathlib.Nat.{mul-le-mul, mul-le-mul-right, mul-pos, mul-one, one-mul, lt-of-not-le}
 use native.Mathlib.Decide.{decLe}
-use borrow.Author.Tests.{le-leb, lt-leb, leb-false}
+use borrow.Author.Tests.{le-leb, lt-leb, leb-false, ltb-false}
 use lib.Dec.{leb}
 use Rattle.basis.specs.Fraction.{Fraction, _÷_, whole, times, over, minus, ceil}
 use Rattle.basis.proofs.Choice.{cond-cases}
@@ -13,8 +13,8 @@ use Rattle.basis.proofs.Fraction.{ceil-equal, ceil-least}
 use Rattle.cellar.specs.declared.CellarWall.{CellarWall}
 use Rattle.cellar.specs.Range.{inRange}
 use Rattle.cellar.specs.Check.{WithinLimits}
-use Rattle.cellar.proofs.Range.{range-bounds}
-use Rattle.cellar.proofs.Limits.{thickness-least, height-most, fill-most}
+use Rattle.cellar.specs.Limits.{tooThin, tooHigh, fillTooHigh}
+use Rattle.cellar.proofs.Range.{in-ranges}
 use Rattle.cellar.specs.RequiredLoad.{spacingFactor, exactRequiredLoad, requiredLoad}
 
 -- What a record within every limit has of the formula's numbers.
@@ -26,14 +26,13 @@ pub record Factors (w : CellarWall) : Type 0 where
   pub thickness-most : w .thickness ≤ 1000
 
 pub factors : (w : CellarWall) → WithinLimits w → Factors w
+unfolding tooThin tooHigh fillTooHigh
 factors w within =
-    record {
-      weight-most = range-bounds w (within .in-range) .weight-most;
-      height-most = height-most w (within .within-limits);
-      fill-most = fill-most w (within .within-limits);
-      thickness-least = thickness-least w (within .within-limits);
-      thickness-most = range-bounds w (within .in-range) .thickness-most;
-    }
+    let all = in-ranges w (within .in-range) in
+    let thick = ltb-false (w .thickness) 200 (within .within-limits .0) in
+    let high = ltb-false 2600 (w .height) (within .within-limits .1 .0) in
+    let filled = ltb-false (w .height) (w .fill) (within .within-limits .1 .1 .0) in
+    omega arith
 
 -- Products
 
@@ -115,7 +114,7 @@ pub required-load-den : (w : CellarWall) → inRange w ≡ true → 0 < exactReq
 unfolding exactRequiredLoad over times
 required-load-den w passed =
     let positive : 0 < spacingFactor (w .height) (w .spacing) .num * w .thickness =
-    mul-pos (spacing-factor-num (w .height) (w .spacing)) (range-bounds w passed .thickness-least) in
+    mul-pos (spacing-factor-num (w .height) (w .spacing)) (omega (arith, in-ranges w passed)) in
     omega arith
 
 -- Bound: y h e² is at most 527280000000000, B at least 20, and t at least 200.

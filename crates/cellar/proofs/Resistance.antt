@@ -11,12 +11,12 @@ use Rattle.basis.proofs.Fraction.{times-den, times-mono, floor-most}
 use Rattle.cellar.specs.declared.CellarWall.{CellarWall}
 use Rattle.cellar.specs.Range.{inRange}
 use Rattle.cellar.specs.Resistance.{reduction, exactResistance, resistance}
-use Rattle.cellar.proofs.Range.{range-bounds}
+use Rattle.cellar.proofs.Range.{in-ranges}
 
 pub strength-product-most : (w : CellarWall) → inRange w ≡ true → 17 * w .strength * w .thickness ≤ 85000000
 strength-product-most w passed =
-    let bounds = range-bounds w passed in
-    mul-le-mul {n₂ = 85000} {m₂ = 1000} (omega (arith, bounds .strength-most)) (bounds .thickness-most)
+    let all = in-ranges w passed in
+    mul-le-mul {n₂ = 85000} {m₂ = 1000} (omega arith) (omega arith)
 
 pub reduction-den : (bonded : ℕ) → 0 < reduction bonded .den
 unfolding reduction

@@ -1,11 +1,11 @@
--- Document 01, "Results and refusals", for a `C` record: the five numbers of every record.
+-- Document 01, "Results and refusals", for a `C` record: the parts of its check, and the five numbers of every record.
 use Prim.Native.Nat.{ℕ}
 use mathlib.Core.Bool.{Bool, true}
 use mathlib.Core.List.{List, [], _∷_}
 use mathlib.Core.Path.{_≡_}
 use lib.Dec.{ltb}
-use Rattle.basis.specs.Refusal.{firstOf, inOrder, NoneApplies}
-use Rattle.basis.specs.Result.{resultOf}
+use Rattle.basis.specs.Refusal.{NoneApplies}
+use Rattle.basis.specs.Check.{Parts, resultOf}
 use Rattle.basis.specs.declared.CheckResult.{CheckResult}
 use Rattle.cellar.specs.declared.CellarWall.{CellarWall}
 use Rattle.cellar.specs.Range.{inRange}
@@ -18,13 +18,21 @@ use Rattle.cellar.specs.Limits.{limits}
 abbrev pub measures : CellarWall → List (ℕ × Bool)
 measures w = (18, ltb (resistance w) (load w)) ∷ (19, ltb (w .dead) (requiredLoad w)) ∷ []
 
--- "The first that applies is given": 2, the limits 14 to 17 and 11, then 18 and 19.
-unfoldable pub refusal : CellarWall → ℕ
-refusal w = firstOf (inOrder (inRange w) (limits w) (measures w))
+-- "The first that applies is given": 2, the limits 14 to 17 and 11, then 18 and 19; and the need, N and resistance.
+abbrev pub parts : CellarWall → Parts
+parts w =
+    record {
+      inRange = inRange w;
+      limits = limits w;
+      measures = measures w;
+      second = requiredLoad w;
+      load = load w;
+      resistance = resistance w;
+    }
 
 -- The five numbers of every record: refusal, need, N, resistance, spare.
-unfoldable pub check : CellarWall → CheckResult
-check w = resultOf (refusal w) (requiredLoad w) (load w) (resistance w)
+abbrev pub check : CellarWall → CheckResult
+check w = resultOf (parts w)
 
 -- What the inner functions are handed: a record in range and within every limit.
 pub record WithinLimits (w : CellarWall) : Type 0 where

@@ -2,17 +2,15 @@
 use Prim.Native.Nat.{_≤_}
 use mathlib.Core.Path.{_≡_}
 use Rattle.cellar.specs.declared.CellarWall.{CellarWall}
+use Rattle.cellar.specs.Record.{withDead, withImposed}
+
+-- A record with the loads G and Q of another.
+abbrev pub withLoadsOf : (other w : CellarWall) → CellarWall
+withLoadsOf other w = withImposed (withDead w (other .dead)) (other .imposed)
 
 -- Two records "that differ at most in G and Q".
-pub record SameButLoads (one other : CellarWall) : Type 0 where
-  pub thickness : one .thickness ≡ other .thickness
-  pub height : one .height ≡ other .height
-  pub fill : one .fill ≡ other .fill
-  pub spacing : one .spacing ≡ other .spacing
-  pub weight : one .weight ≡ other .weight
-  pub strength : one .strength ≡ other .strength
-  pub bonded : one .bonded ≡ other .bonded
-  pub ground : one .ground ≡ other .ground
+abbrev pub SameButLoads : (one other : CellarWall) → Type 0
+SameButLoads one other = withLoadsOf other one ≡ other
 
 -- "neither falling: every record between them": both loads between theirs, ends included, all else the same.
 pub record Between (low high wall : CellarWall) : Type 0 where

@@ -1,16 +1,16 @@
 // The cellar wall of document 01: its record, its ranges, limits and factors, and its check.
-ghost use mathlib.Core.List.{[], _∷_};
+ghost use mathlib.Core.Bool.{true};
 ghost use mathlib.Core.Path.{_≡_};
-ghost use lib.Dec.{ltb};
 ghost use Rattle.basis.specs.Refusal.{firstOf};
 ghost use Rattle.cellar.specs.Range.{inRange};
 ghost use Rattle.cellar.specs.RequiredLoad.{requiredLoad};
 ghost use Rattle.cellar.specs.Resistance.{resistance};
+ghost use Rattle.cellar.specs.Load.{load};
 ghost use Rattle.cellar.specs.Limits.{limits};
 ghost use Rattle.cellar.specs.Check.{check, WithinLimits};
 use basis::CheckResult;
 
-// The 10 numbers of a `C` record, in document 01's order. Lengths are in mm.
+// The numbers of a `C` record, in document 01's order. Lengths are in mm.
 pub struct CellarWall {
     // t
     pub thickness: u64,
@@ -34,40 +34,48 @@ pub struct CellarWall {
     pub ground: u64,
 }
 
+impl CellarWall {
+    // How many numbers the record has.
+    pub const NUMBERS: usize = 10;
+}
+
 // Ranges: document 01, "The two lines".
 impl CellarWall {
-    const GREATEST_THICKNESS: u64 = 1000;
+    // The greatest number of each range.
+    const RANGE_GREATEST_THICKNESS: u64 = 1000;
 
-    const GREATEST_HEIGHT: u64 = 20000;
+    const RANGE_GREATEST_HEIGHT: u64 = 20000;
 
-    const GREATEST_FILL: u64 = 20000;
+    const RANGE_GREATEST_FILL: u64 = 20000;
 
-    const GREATEST_SPACING: u64 = 30000;
+    const RANGE_GREATEST_SPACING: u64 = 30000;
 
-    const GREATEST_WEIGHT: u64 = 30000;
+    const RANGE_GREATEST_WEIGHT: u64 = 30000;
 
-    const GREATEST_STRENGTH: u64 = 5000;
+    const RANGE_GREATEST_STRENGTH: u64 = 5000;
 
-    const GREATEST_BONDED: u64 = 1;
+    const RANGE_GREATEST_BONDED: u64 = 1;
 
-    const GREATEST_LOAD: u64 = 10000000;
+    const RANGE_GREATEST_DEAD: u64 = 10000000;
 
-    const GREATEST_GROUND: u64 = 100000;
+    const RANGE_GREATEST_IMPOSED: u64 = 10000000;
 
-    // Whether every number of the record is in its range.
+    const RANGE_GREATEST_GROUND: u64 = 100000;
+
+    // Whether every number of the record is in its range: both ends of each, in the order of the definition's list.
     pub fn in_range(self) -> bool
         ensures { λ inside. ⌜ inside ≡ inRange self ⌝ }
     {
-        ((1 <= self.thickness) & (self.thickness <= CellarWall::GREATEST_THICKNESS))
-            & ((1 <= self.height) & (self.height <= CellarWall::GREATEST_HEIGHT))
-            & (self.fill <= CellarWall::GREATEST_FILL)
-            & ((1 <= self.spacing) & (self.spacing <= CellarWall::GREATEST_SPACING))
-            & ((1 <= self.weight) & (self.weight <= CellarWall::GREATEST_WEIGHT))
-            & ((1 <= self.strength) & (self.strength <= CellarWall::GREATEST_STRENGTH))
-            & (self.bonded <= CellarWall::GREATEST_BONDED)
-            & ((1 <= self.dead) & (self.dead <= CellarWall::GREATEST_LOAD))
-            & (self.imposed <= CellarWall::GREATEST_LOAD)
-            & (self.ground <= CellarWall::GREATEST_GROUND)
+        ((1 <= self.thickness) & (self.thickness <= CellarWall::RANGE_GREATEST_THICKNESS))
+            & ((1 <= self.height) & (self.height <= CellarWall::RANGE_GREATEST_HEIGHT))
+            & ((0 <= self.fill) & (self.fill <= CellarWall::RANGE_GREATEST_FILL))
+            & ((1 <= self.spacing) & (self.spacing <= CellarWall::RANGE_GREATEST_SPACING))
+            & ((1 <= self.weight) & (self.weight <= CellarWall::RANGE_GREATEST_WEIGHT))
+            & ((1 <= self.strength) & (self.strength <= CellarWall::RANGE_GREATEST_STRENGTH))
+            & ((0 <= self.bonded) & (self.bonded <= CellarWall::RANGE_GREATEST_BONDED))
+            & ((1 <= self.dead) & (self.dead <= CellarWall::RANGE_GREATEST_DEAD))
+            & ((0 <= self.imposed) & (self.imposed <= CellarWall::RANGE_GREATEST_IMPOSED))
+            & ((0 <= self.ground) & (self.ground <= CellarWall::RANGE_GREATEST_GROUND))
     }
 }
 
@@ -134,68 +142,63 @@ impl CellarWall {
     }
 }
 
+// Load.
+impl CellarWall {
+    // 1.35G + 1.5Q, in hundredths.
+    const DEAD_FACTOR: u64 = 135;
+
+    const IMPOSED_FACTOR: u64 = 150;
+
+    // N, the design load in N/m.
+    fn load(self) -> u64
+        requires { ⌜ inRange self ≡ true ⌝ }
+        ensures { λ rounded. ⌜ rounded ≡ load self ⌝ }
+    {
+        basis::rounded_load(
+            CellarWall::DEAD_FACTOR * self.dead + CellarWall::IMPOSED_FACTOR * self.imposed,
+        )
+    }
+}
+
 // Limits: document 01's refusals 14 to 17 and 11.
 impl CellarWall {
-    const LEAST_THICKNESS: u64 = 200;
+    // 14
+    const LIMIT_LEAST_THICKNESS: u64 = 200;
+    // 15
+    const LIMIT_HEIGHT: u64 = 2600;
+    // 17
+    const LIMIT_GROUND: u64 = 5000;
+    // 11
+    const LIMIT_LEAST_STRENGTH: u64 = 180;
 
-    const GREATEST_CLEAR_HEIGHT: u64 = 2600;
-
-    const GREATEST_GROUND_LOAD: u64 = 5000;
-
-    const LEAST_STRENGTH: u64 = 180;
-
-    // The number of the first of refusals 14 to 17 and 11 that applies, or 0.
+    // The number of the first of refusals 14 to 17 and 11 that applies, or 0. The last is asked first, so that each takes the place of those behind it.
     fn limit(self) -> u64
         ensures { λ number. ⌜ number ≡ firstOf (limits self) ⌝ }
     {
-        let thickness = self.thickness;
-        let height = self.height;
-        let fill = self.fill;
-        let ground = self.ground;
-        let strength = self.strength;
-        if thickness < CellarWall::LEAST_THICKNESS {
-            return 14;
-        }
-        if CellarWall::GREATEST_CLEAR_HEIGHT < height {
-            return 15;
-        }
-        if height < fill {
-            return 16;
-        }
-        if CellarWall::GREATEST_GROUND_LOAD < ground {
-            return 17;
-        }
-        if strength < CellarWall::LEAST_STRENGTH {
-            return 11;
-        }
-        0
+        let limit = basis::first_refusal(11, self.strength < CellarWall::LIMIT_LEAST_STRENGTH, 0);
+        let limit = basis::first_refusal(17, CellarWall::LIMIT_GROUND < self.ground, limit);
+        let limit = basis::first_refusal(16, self.height < self.fill, limit);
+        let limit = basis::first_refusal(15, CellarWall::LIMIT_HEIGHT < self.height, limit);
+        basis::first_refusal(
+            14,
+            self.thickness < CellarWall::LIMIT_LEAST_THICKNESS,
+            limit,
+        )
     }
 }
 
 // The check.
 impl CellarWall {
-    // The number of the first of refusals 18 and 19 that applies, or 0.
-    fn measure(resistance: u64, load: u64, dead: u64, required: u64) -> u64
-        ensures { λ number. ⌜ number ≡ firstOf ((18, ltb resistance load) ∷ (19, ltb dead required) ∷ []) ⌝ }
-    {
-        if resistance < load {
-            return 18;
-        }
-        if dead < required {
-            return 19;
-        }
-        0
-    }
-
     // The result of a record within every limit: accepted, or refusal 18 or 19.
-    fn measured(self) -> CheckResult
+    fn reported(self) -> CheckResult
         requires { ⌜ WithinLimits self ⌝ }
         ensures { λ result. ⌜ result ≡ check self ⌝ }
     {
         let required = self.required_load();
-        let load = basis::design_load(self.dead as u32, self.imposed as u32);
+        let load = self.load();
         let resistance = self.resistance();
-        let refusal = CellarWall::measure(resistance, load, self.dead, required);
+        let refusal = basis::first_refusal(19, self.dead < required, 0);
+        let refusal = basis::first_refusal(18, resistance < load, refusal);
         CheckResult::filled(refusal, required, load as u32, resistance as u32)
     }
 
@@ -206,7 +209,7 @@ impl CellarWall {
         if self.in_range() {
             let limit = self.limit();
             if limit == 0 {
-                return self.measured();
+                return self.reported();
             }
             return CheckResult::refused(limit);
         }

@@ -5,13 +5,13 @@ use native.Mathlib.Nat.{mul-one}
 use borrow.Author.Tests.{eq-eqb, ne-eqb}
 use Rattle.basis.specs.Fraction.{floor, times}
 use Rattle.cellar.specs.Resistance.{reduction, exactResistance, resistance}
-use Rattle.cellar.proofs.Range.{range-bounds}
+use Rattle.cellar.proofs.Range.{in-ranges}
 use Rattle.cellar.proofs.Resistance.{strength-product-most}
 use Rattle.cellar.proofs.CellarWall.resistance.Statement.{statement}
 use Rattle.cellar.proofs.CellarWall.resistance.Tie as tie
 
 mul-product : tie.Need-mul-product
-mul-product c = omega (arith, range-bounds (c .args .self) (c .pre .in-range) .strength-most)
+mul-product c = omega (arith, in-ranges (c .args .self) (c .pre .in-range))
 
 mul-product-2 : tie.Need-mul-product-2
 mul-product-2 c = omega (arith, strength-product-most (c .args .self) (c .pre .in-range))
