@@ -15,45 +15,42 @@ use native.Mathlib.Nat.{le-trans}
 use native.Mathlib.Omega.{arith}
 use Rattle.basis.specs.Refusal.{NoneApplies}
 use Rattle.basis.specs.declared.CheckResult.{CheckResult}
+use Rattle.basis.proofs.Check.{reported-numbers}
 use Rattle.storey.specs.declared.StoreyWall.{StoreyWall}
-use Rattle.storey.specs.Limits as storey-limits
-use Rattle.storey.specs.Range as storey-range
+use Rattle.storey.specs.Limits.{limits}
+use Rattle.storey.specs.Range.{inRange}
 use Rattle.storey.specs.Resistance.{resistance}
+use Rattle.storey.specs.Check.{parts, check}
 use Rattle.storey.proofs.Claims as storey-claims
 use Rattle.storey.proofs.Comparison as storey-laws
 use Rattle.cellar.proofs.Claims as cellar-claims
 use Rattle.cellar.proofs.Comparison as cellar-laws
-use Rattle.cellar.proofs.Range as cellar-range
-use Rattle.walls.specs.declared.Wall.the-variants.{Storey}
-use Rattle.walls.specs.Check.{check}
 use Rattle.walls.specs.Comparison.{StoreyComparison, CellarComparison}
 
 -- The reported resistance of a record within the ranges and every limit.
-storey-reported : (w : StoreyWall) → storey-range.inRange w ≡ true → NoneApplies (storey-limits.limits w) → check (Storey w) .resistance ≡ resistance w
-storey-reported w passed none = ap (λ (result : CheckResult). result .resistance) (storey-claims.reported-numbers w passed none)
+reported : (w : StoreyWall) → inRange w ≡ true → NoneApplies (limits w) → check w .resistance ≡ resistance w
+reported w passed none = ap (λ (result : CheckResult). result .resistance) (reported-numbers (parts w) passed none)
 
 pub storey-comparison : StoreyComparison
 storey-comparison first second passed passed' pair accepted =
-    let kept = storey-claims.accepted-when first .0 accepted in
+    let kept = storey-claims.accepted-exactly first .0 accepted in
     let limits = storey-laws.limits-kept first second pair passed passed' (kept .1) in
     let lighter = storey-laws.load-falls first second pair passed passed' in
     let stronger = storey-laws.resistance-grows first second pair passed passed' in (
-      storey-claims.accepted-when second .1 (passed', limits, le-trans lighter (le-trans (kept .2) stronger)),
-      rw (storey-reported first passed (kept .1), storey-reported second passed' limits) stronger,
+      storey-claims.accepted-exactly second .1 (passed', limits, le-trans lighter (le-trans (kept .2) stronger)),
+      rw (reported first passed (kept .1), reported second passed' limits) stronger,
     )
 
 pub cellar-comparison : CellarComparison
 cellar-comparison low high wall accepted-low accepted-high between =
-    let from = cellar-claims.accepted-when low .0 accepted-low in
-    let to = cellar-claims.accepted-when high .0 accepted-high in
-    let ends = cellar-range.range-bounds high (to .0) in
+    let from = cellar-claims.accepted-exactly low .0 accepted-low in
+    let to = cellar-claims.accepted-exactly high .0 accepted-high in
     let resistance = cellar-laws.resistance-same low high (between .ends) in
     let resistance' = cellar-laws.resistance-same low wall (between .inside) in
     let required = cellar-laws.required-load-same low wall (between .inside) in
     let heavier = cellar-laws.loads-between low high wall between in
-    cellar-claims.accepted-when wall .1 (
-      cellar-laws.range-kept low wall (between .inside) (from .0) (between .dead-from)
-          (le-trans (between .dead-to) (ends .dead-most)) (le-trans (between .imposed-to) (ends .imposed-most)),
+    cellar-claims.accepted-exactly wall .1 (
+      cellar-laws.range-kept low wall (between .inside) high (from .0) (to .0) (between .dead-from) (between .dead-to) (between .imposed-to),
       cellar-laws.limits-same low wall (between .inside) (from .1),
       omega (arith, to .2),
       omega (arith, from .3, between .dead-from),

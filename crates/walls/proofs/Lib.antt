@@ -1,4 +1,5 @@
 -- Proofs of the claims of specs/.
+pub mod Claims
 pub mod Comparison
 pub mod Computes
 pub mod MarkedFigures

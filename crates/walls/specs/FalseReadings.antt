@@ -1,31 +1,15 @@
 -- Document 01, "Plausible readings that are false": each reading as a statement about the definitions. Each is refuted in proofs/FalseReadings.antt.
-use Prim.Native.Nat.{ℕ, _+_, _*_, _/_, _≤_}
+use Prim.Native.Nat.{ℕ, _≤_}
 use mathlib.Core.Bool.{true}
 use mathlib.Core.Path.{_≡_}
-use Rattle.basis.specs.Fraction.{Fraction, whole, times, floor}
+use Rattle.basis.specs.Fraction.{whole, times, floor, nearest}
 use Rattle.basis.specs.Result.{Accepted}
 use Rattle.storey.specs.declared.StoreyWall.{StoreyWall}
 use Rattle.storey.specs.Range.{inRange}
 use Rattle.storey.specs.BucklingLength.{exactLength, bucklingLength}
-use Rattle.storey.specs.Resistance.{unreduced, reduction, resistance}
+use Rattle.storey.specs.Resistance.{supportFactor, unreduced, reduction, resistance}
 use Rattle.storey.specs.Check.{check}
-use Rattle.storey.specs.Record.{storeyRecord}
-
--- A storey record with another clear height, distance c, thickness with full bearing.
-
-abbrev pub changed : StoreyWall → (t h c a : ℕ) → StoreyWall
-changed w t h c a =
-    storeyRecord (w .usage) t h (w .length) (w .held) c (w .support) (w .span) a (w .strength) (w .bonded)
-    (w .dead) (w .imposed) (w .floorload) (w .building) (w .storeys)
-
-abbrev pub withHeight : StoreyWall → ℕ → StoreyWall
-withHeight w h = changed w (w .thickness) h (w .distance) (w .bearing)
-
-abbrev pub withDistance : StoreyWall → ℕ → StoreyWall
-withDistance w c = changed w (w .thickness) (w .height) c (w .bearing)
-
-abbrev pub withThickness : StoreyWall → ℕ → StoreyWall
-withThickness w t = changed w t (w .height) (w .distance) t
+use Rattle.storey.specs.Record.{withThickness, withHeight, withDistance, withBearing}
 
 -- "A lower wall buckles over a shorter length", on three sides.
 abbrev pub LowerIsShorter : Type 0
@@ -40,14 +24,11 @@ LowerStaysAccepted =
 abbrev pub NarrowerIsStiffer : Type 0
 NarrowerIsStiffer = (w : StoreyWall) (c : ℕ) → w .held ≡ 4 → c ≤ w .distance → bucklingLength (withDistance w c) ≤ bucklingLength w
 
--- "Thicker is stronger".
+-- "Thicker is stronger", with full bearing.
 abbrev pub ThickerIsStronger : Type 0
-ThickerIsStronger = (w : StoreyWall) (t : ℕ) → w .thickness ≡ w .bearing → w .thickness ≤ t → resistance w ≤ resistance (withThickness w t)
+ThickerIsStronger = (w : StoreyWall) (t : ℕ) → w .thickness ≡ w .bearing → w .thickness ≤ t → resistance w ≤ resistance (withBearing (withThickness w t) t)
 
--- "Rounding E to nearest", an exact half upwards.
-abbrev pub nearest : Fraction → ℕ
-nearest f = (2 * f .num + f .den) / (2 * f .den)
-
+-- "Rounding E to nearest".
 abbrev pub LengthToNearest : Type 0
 LengthToNearest = (w : StoreyWall) → bucklingLength w ≡ nearest (exactLength w)
 
@@ -57,5 +38,7 @@ RoundedBeforeReduction =
     (w : StoreyWall) →
     resistance w
     ≡ floor
-    (times (reduction (w .thickness) (w .length) (w .bonded))
-    (whole (floor (unreduced (w .support) (w .span) (w .thickness) (w .bearing) (w .strength) (whole (bucklingLength w))))))
+    (times (reduction w)
+    (whole
+    (floor
+    (unreduced (w .support) (w .thickness) (w .bearing) (w .strength) (supportFactor (w .support) (w .span)) (whole (bucklingLength w))))))

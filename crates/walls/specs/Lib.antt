@@ -1,5 +1,6 @@
--- A record of either kind: its check, the comparison of records, the marked figures, and the readings that are false.
+-- A record of either kind: its check, demand 2, the comparison of records, the marked figures, and the readings that are false.
 pub mod Check
+pub mod Claims
 pub mod Comparison
 pub mod Examples
 pub mod MarkedFigures
