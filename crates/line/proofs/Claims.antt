@@ -5,14 +5,20 @@ use Rattle.walls.specs.declared.Wall.{Wall}
 use Rattle.walls.specs.declared.Wall.the-variants.{Storey, Cellar}
 use Rattle.line.specs.declared.Reading.{Reading}
 use Rattle.line.specs.declared.Reading.the-variants.{Read, Malformed}
-use Rattle.line.specs.Grammar.{NineDigits, countOf, numbersOf, lineOf}
+use Rattle.walls.specs.Check.{numbersOf}
+use Rattle.line.specs.Grammar.{NineDigits, countOf, lineOf}
 use Rattle.line.specs.Automaton.{start, digitOf, next, run}
 use Rattle.line.specs.Reading.{wallOf, answer, readLine}
-use Rattle.line.specs.Claims.{ReadingSound, ReadingComplete, MalformedExactly}
+use Rattle.line.specs.Claims.{CountOfNumbers, ReadingSound, ReadingComplete, MalformedExactly}
 use Rattle.text.specs.Quoted.{bytes}
 use Rattle.line.specs.Worked.{worked, WorkedLines}
 use Rattle.line.proofs.Completeness.{answer-line}
 use Rattle.line.proofs.Soundness.{run-spells, not-read, answer-spells}
+
+pub count-of-numbers : CountOfNumbers
+unfolding countOf
+count-of-numbers (Storey w) = refl
+count-of-numbers (Cellar w) = refl
 
 pub reading-sound : ReadingSound
 unfolding readLine

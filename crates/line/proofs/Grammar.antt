@@ -9,7 +9,8 @@ use lib.ListN.{length, getD, take, drop}
 use lib.Seq.{drop-cons, take-all}
 use borrow.Author.Tests.{eqb-true}
 use Rattle.text.specs.Decimal.{decimal}
-use Rattle.line.specs.Grammar.{fields, NineDigits, countOf, letterOf, numbersOf}
+use Rattle.walls.specs.Check.{numbersOf}
+use Rattle.line.specs.Grammar.{fields, NineDigits, countOf, letterOf}
 use Rattle.line.specs.Reading.{wallOf}
 use Rattle.basis.proofs.Choice.{cond-cases}
 

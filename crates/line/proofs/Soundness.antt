@@ -13,7 +13,8 @@ use Rattle.walls.specs.declared.Wall.{Wall}
 use Rattle.line.specs.declared.Reading.{Reading}
 use Rattle.line.specs.declared.Reading.the-variants.{Read, Malformed}
 use Rattle.text.specs.Decimal.{decimal}
-use Rattle.line.specs.Grammar.{fields, NineDigits, countOf, letterOf, numbersOf, lineOf}
+use Rattle.walls.specs.Check.{numbersOf}
+use Rattle.line.specs.Grammar.{fields, NineDigits, countOf, letterOf, lineOf}
 use Rattle.line.specs.Automaton.{State, start, lettered, inside, wrong, digitOf, next, run}
 use Rattle.line.specs.Reading.{wallOf, answer}
 use Rattle.basis.proofs.Choice.{and-left, and-right, and-none, or-left, or-right, cond-cases}

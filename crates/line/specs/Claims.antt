@@ -5,8 +5,14 @@ use mathlib.Core.Logic.{_↔_}
 use Prim.Native.Nat.{ℕ}
 use Rattle.walls.specs.declared.Wall.{Wall}
 use Rattle.line.specs.declared.Reading.the-variants.{Read, Malformed}
-use Rattle.line.specs.Grammar.{NineDigits, numbersOf, lineOf}
+use Rattle.walls.specs.Check.{numbersOf}
+use lib.ListN.{length}
+use Rattle.line.specs.Grammar.{NineDigits, lineOf, countOf, letterOf}
 use Rattle.line.specs.Reading.{readLine}
+
+-- As many numbers follow the letter of a record as the record has.
+abbrev pub CountOfNumbers : Type 0
+CountOfNumbers = (wall : Wall) → countOf (letterOf wall) ≡ length (numbersOf wall)
 
 -- Whatever is read as a record is the line of that record, and each of its numbers has 1 to 9 digits.
 abbrev pub ReadingSound : Type 0

@@ -9,6 +9,7 @@ use Rattle.storey.specs.Record as storey-record
 use Rattle.cellar.specs.Record as cellar-record
 use Rattle.walls.specs.declared.Wall.{Wall}
 use Rattle.walls.specs.declared.Wall.the-variants.{Storey, Cellar}
+use Rattle.walls.specs.Check.{numbersOf}
 
 -- "Numbers are decimal, 1 to 9 digits, without leading zeros (a lone 0 is allowed)": each is below 10^9, and `decimal` gives its digits.
 abbrev pub NineDigits : List ℕ → Type 0
@@ -21,16 +22,11 @@ fields (number ∷ numbers) = 32 ∷ decimal number ++ fields numbers
 
 -- "`S` and 16 numbers", "`C` and 10 numbers": how many follow a letter. No line begins with another byte.
 unfoldable pub countOf : ℕ → ℕ
-countOf letter = cond (eqb letter 83) 16 (cond (eqb letter 67) 10 0)
+countOf letter = cond (eqb letter 83) storey-record.count (cond (eqb letter 67) cellar-record.count 0)
 
 abbrev pub letterOf : Wall → ℕ
 letterOf (Storey wall) = 83
 letterOf (Cellar wall) = 67
-
--- The numbers of a record, in document 01's order.
-abbrev pub numbersOf : Wall → List ℕ
-numbersOf (Storey wall) = storey-record.numbers wall
-numbersOf (Cellar wall) = cellar-record.numbers wall
 
 -- "A line ends where its bytes end."
 abbrev pub lineOf : Wall → List ℕ

@@ -3,7 +3,7 @@ use Prim.Native.String.{String}
 use mathlib.Core.Path.{_≡_}
 use mathlib.Core.List.{List, [], _∷_, map}
 use Rattle.text.specs.Quoted.{bytes}
-use Rattle.storey.specs.Record.{storeyRecord}
+use Rattle.storey.specs.Record.{withDead}
 use Rattle.walls.specs.Examples.{exampleA, exampleK}
 use Rattle.walls.specs.declared.Wall.the-variants.{Storey, Cellar}
 use Rattle.line.specs.declared.Reading.{Reading}
@@ -12,15 +12,15 @@ use Rattle.line.specs.Reading.{readLine}
 
 unfoldable pub worked : List (String × Reading)
 worked =
-    ("S 1 175 2625 5000 2 0 1 5000 175 500 0 60000 90000 2250 9000 3", Read (Storey (exampleA 2625 2 0)))
+    ("S 1 175 2625 5000 2 0 1 5000 175 500 0 60000 90000 2250 9000 3", Read (Storey exampleA))
     -- nine digits, and a number that is in no range
-    ∷ ("S 1 175 2625 5000 2 0 1 5000 175 500 0 999999999 90000 2250 9000 3", Read (Storey (storeyRecord 1 175 2625 5000 2 0 1 5000 175 500 0 999999999 90000 2250 9000 3)))
+    ∷ ("S 1 175 2625 5000 2 0 1 5000 175 500 0 999999999 90000 2250 9000 3", Read (Storey (withDead exampleA 999999999)))
     ∷ ("S 1 175 2625 5000 2 0 1 5000 175 500 0 1000000000 90000 2250 9000 3", Malformed)
     ∷ ("S 1 175 2625 5000 2 0 1 5000 175 500 0 60000 90000 2250 9000 3 ", Malformed)
     ∷ ("S 1 175 2625 5000 2 0 1 5000 175 500 0 60000 90000 2250 9000 3\r", Malformed)
     ∷ ("S 1 175 2625 5000 2 0 1 5000 175 500 0 60000 90000 2250 9000 3 0", Malformed)
     ∷ ("S 1 175 2625 5000 2 0 1 5000 175 500 0 60000 90000 2250 9000", Malformed)
-    ∷ ("C 365 2500 2000 6000 20000 500 0 40000 10000 5000", Read (Cellar (exampleK 6000)))
+    ∷ ("C 365 2500 2000 6000 20000 500 0 40000 10000 5000", Read (Cellar exampleK))
     ∷ ("c 365 2500 2000 6000 20000 500 0 40000 10000 5000", Malformed)
     ∷ ("S 175", Malformed)
     ∷ ("S 01", Malformed)

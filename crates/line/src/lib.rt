@@ -5,12 +5,9 @@ use walls::Wall;
 ghost use mathlib.Core.Path.{_≡_};
 ghost use Rattle.line.specs.Grammar.{countOf};
 ghost use Rattle.line.specs.Automaton.{digitOf};
-ghost use Rattle.line.specs.Reading.{storeyOf, cellarOf, wallOf, readLine};
-
-// How many numbers follow the letter `S`, the most that any letter asks for, and the letter `C`.
-const STOREY_NUMBERS: usize = 16;
-
-const CELLAR_NUMBERS: usize = 10;
+ghost use Rattle.storey.specs.Record.{storeyOf};
+ghost use Rattle.cellar.specs.Record.{cellarOf};
+ghost use Rattle.line.specs.Reading.{wallOf, readLine};
 
 // How many digits a number has at most.
 const MOST_DIGITS: u64 = 9;
@@ -23,13 +20,13 @@ pub enum Reading {
     Malformed,
 }
 
-// How many numbers follow a letter; 0 where no line begins with it.
+// How many numbers follow a letter, for none more than for `S`; 0 where no line begins with it.
 fn count(letter: u8) -> usize
     ensures { λ count. ⌜ count ≡ countOf letter ⌝ }
 {
     match letter {
-        b'S' => STOREY_NUMBERS,
-        b'C' => CELLAR_NUMBERS,
+        b'S' => StoreyWall::NUMBERS,
+        b'C' => CellarWall::NUMBERS,
         _ => 0,
     }
 }
@@ -44,7 +41,7 @@ fn digit(byte: u8) -> u64
     10
 }
 
-fn storey_wall(numbers: &[u64; STOREY_NUMBERS]) -> StoreyWall
+fn storey_wall(numbers: &[u64; StoreyWall::NUMBERS]) -> StoreyWall
     ensures { λ wall. ⌜ wall ≡ storeyOf (now (numbers .entry)) ⌝ }
 {
     StoreyWall {
@@ -67,7 +64,7 @@ fn storey_wall(numbers: &[u64; STOREY_NUMBERS]) -> StoreyWall
     }
 }
 
-fn cellar_wall(numbers: &[u64; STOREY_NUMBERS]) -> CellarWall
+fn cellar_wall(numbers: &[u64; StoreyWall::NUMBERS]) -> CellarWall
     ensures { λ wall. ⌜ wall ≡ cellarOf (now (numbers .entry)) ⌝ }
 {
     CellarWall {
@@ -86,7 +83,7 @@ fn cellar_wall(numbers: &[u64; STOREY_NUMBERS]) -> CellarWall
 
 // The record of a line with this letter and these numbers. An assignment in place of a second return: the compiler then copies
 // the numbers in one piece.
-fn wall(letter: u8, numbers: &[u64; STOREY_NUMBERS]) -> Wall
+fn wall(letter: u8, numbers: &[u64; StoreyWall::NUMBERS]) -> Wall
     ensures { λ wall. ⌜ wall ≡ wallOf letter (now (numbers .entry)) ⌝ }
 {
     let mut wall = Wall::Cellar(cellar_wall(numbers));
@@ -108,7 +105,7 @@ pub fn read(line: &[u8]) -> Reading
     if wanted == 0 || line[1] != b' ' {
         return Reading::Malformed;
     }
-    let mut numbers = [0u64; STOREY_NUMBERS];
+    let mut numbers = [0u64; StoreyWall::NUMBERS];
     let mut k = 0;
     let mut at = 2;
     'numbers: while (k < wanted) & (at < line.len()) {

@@ -9,10 +9,11 @@ use lib.Dec.{ltb}
 use lib.ListN.{length, take, drop, length-drop}
 use lib.Seq.{length-take-le, take-take, take-add, drop-at}
 use Rattle.basis.proofs.Choice.{cond-cases}
+use Rattle.text.specs.LineEnd.{ended, lineLength}
+use Rattle.text.proofs.LineEnd.{ended-before}
 use Rattle.buffer.specs.Overwrite.{overwrite}
 use Rattle.lines.specs.Output.{outputOf}
-use Rattle.lines.specs.Answer.{ended, lineLength, endedLength, answeredOf, heldOf, answered, roomFor}
-use Rattle.lines.proofs.LineEnd.{ended-before}
+use Rattle.lines.specs.Answer.{endedLength, answeredOf, heldOf, answered, roomFor}
 use Rattle.lines.proofs.EndedLines.{endedLength-within, take-min, held-take}
 
 drop-take : (l : List ℕ) (from n : ℕ) → from ≤ length l → drop from (take (from + n) l) ≡ take n (drop from l)

@@ -1,6 +1,6 @@
 -- Ended lines answered one after the other, as `answer_lines` does it. What is answered so far is whole lines (`Whole`), so its text is the
 -- output for it, and the text of the next line joins that of the lines before.
-use Prim.Native.Nat.{ℕ, zero, suc, _+_, _-_, _*_, _≤_, _<_}
+use Prim.Native.Nat.{ℕ, suc, _+_, _-_, _*_, _≤_, _<_}
 use native.Mathlib.Nat.{zero-add, add-zero}
 use native.Mathlib.Omega.{arith}
 use mathlib.Core.Bool.{true, false}
@@ -9,6 +9,8 @@ use mathlib.Core.Path.{_≡_, sym, ap, _∙_}
 use lib.ListN.{length, take, drop, length-append, length-drop}
 use lib.Seq.{take-add, drop-drop, length-take-le}
 use Rattle.basis.specs.declared.CheckResult.{CheckResult}
+use Rattle.text.specs.LineEnd.{ended, lineLength}
+use Rattle.text.proofs.LineEnd.{line-unended, line-with-end, lineLength-ended, Whole, whole-none, whole-line, whole-append}
 use Rattle.buffer.specs.Overwrite.{overwrite}
 use Rattle.buffer.proofs.Overwrite.{overwrite-none, overwrite-joins, overwrite-length, overwrite-part}
 use Rattle.report.specs.Text.{resultText}
@@ -17,10 +19,9 @@ use Rattle.report.proofs.Written.{written-count}
 use Rattle.wallcheck.specs.Entry.{lineResult}
 use Rattle.wallcheck.proofs.Entry.{line-below, text-within-64}
 use Rattle.lines.specs.Output.{lineText, outputOf}
-use Rattle.lines.specs.Answer.{ended, lineLength, endedLength, answeredOf, roomFor}
-use Rattle.lines.proofs.LineEnd.{line-unended, line-with-end, line-cases, lineLength-ended, ended-cases}
-use Rattle.lines.proofs.Output.{output-none, output-line, Whole, whole-none, whole-line, whole-append}
-use Rattle.lines.proofs.EndedLines.{endedLength-none, endedLength-more, answered-line}
+use Rattle.lines.specs.Answer.{endedLength, answeredOf, roomFor}
+use Rattle.lines.proofs.Output.{output-none, output-line, output-whole}
+use Rattle.lines.proofs.EndedLines.{endedLength-more, answered-cases}
 use Rattle.lines.proofs.LongLine.{schedule-result}
 
 -- ── the length of the text ──
@@ -29,13 +30,9 @@ unfolding lineText
 text-short line = rw (schedule-result line) (text-within-64 _ (line-below line))
 
 pub answered-fits : (most : ℕ) (bytes : List ℕ) → length (outputOf (answeredOf most bytes)) ≤ 64 * most
-unfolding endedLength
-answered-fits zero bytes = rw output-none (omega arith)
-answered-fits (suc most) bytes =
-    ended-cases (length (outputOf (answeredOf (suc most) bytes)) ≤ 64 * suc most) bytes
-    (line-cases (λ l. length (outputOf (answeredOf (suc most) l)) ≤ 64 * suc most)
-    (λ line rest e. rw (answered-line most line rest e, output-line line (answeredOf most rest) e, length-append) (omega (arith, text-short line, answered-fits most rest))) bytes)
-    (λ e. rw (endedLength-none (suc most) bytes e, output-none) (omega arith))
+answered-fits =
+    answered-cases (λ most l. length (outputOf l) ≤ 64 * most) (λ most. rw output-none (omega arith))
+    (λ most line rest e fits. rw (output-line line rest e, length-append) (omega (arith, text-short line)))
 
 -- ── the state between two lines ──
 -- The first `taken` bytes of the block are answered in the first `filled` bytes of the output, which has room for `left` lines more.
@@ -96,10 +93,10 @@ module _
       rw (next, here, take-add, line-with-end (drop taken block) e)
 
   line-is-unended : ended (take (end - taken) (drop taken block)) ≡ false
-  line-is-unended = let here : end - taken ≡ lineLength (drop taken block) = omega arith in rw here (line-unended (drop taken block))
+  line-is-unended = let here : end - taken ≡ lineLength (drop taken block) = omega arith in rw here (line-unended (drop taken block) e)
 
   line-output : outputOf (take (end + 1) block) ≡ outputOf (take taken block) ++ lineText (take (end - taken) (drop taken block))
-  line-output = rw (line-taken, a .whole _, output-line _ [] line-is-unended, output-none, append-nil)
+  line-output = rw (line-taken, output-whole _ _ (a .whole), output-line _ [] line-is-unended, output-none, append-nil)
 
   answering-line :
       Answering block output₀ (overwrite output filled (lineText (take (end - taken) (drop taken block)))) (left - 1) (end + 1)

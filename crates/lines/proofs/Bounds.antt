@@ -8,13 +8,14 @@ use lib.Dec.{leb}
 use lib.ListN.{length, take, length-take, length-drop, take-append-drop}
 use borrow.Author.Tests.{leb-true}
 use Rattle.basis.proofs.Choice.{cond-cases}
+use Rattle.text.specs.LineEnd.{ended}
+use Rattle.text.proofs.LineEnd.{ended-append}
 use Rattle.report.specs.Text.{resultText}
 use Rattle.report.specs.Written.{Written}
 use Rattle.lines.specs.declared.Progress.{Progress}
 use Rattle.lines.specs.Output.{scheduleResult, outputOf}
-use Rattle.lines.specs.Answer.{ended, endedLength, answeredOf, unansweredOf, heldOf, roomFor, Answered, answered, answeredLast}
-use Rattle.lines.proofs.LineEnd.{ended-append}
-use Rattle.lines.proofs.EndedLines.{unanswered-fewer, held-ended, held-fewer}
+use Rattle.lines.specs.Answer.{endedLength, answeredOf, unansweredOf, heldOf, roomFor, Answered, answered, answeredLast}
+use Rattle.lines.proofs.EndedLines.{answer-takes-lines, held-fewer}
 use Rattle.lines.proofs.Answering.{answered-fits}
 
 -- The text fits the output, and what is held the input.
@@ -49,8 +50,8 @@ module _
       omega (
         arith,
         ap (λ (a : Answered). a .progress .held) is,
-        ap length (held-ended (unansweredOf most bytes) behind),
-        unanswered-fewer most bytes (omega arith) before,
+        held-fewer (unansweredOf most bytes),
+        answer-takes-lines most bytes (omega arith) before,
         length-take held input,
       )
 

@@ -1,6 +1,5 @@
--- Laws of byte 10 (LineEnd), of the output (LongLine, Output), of what is answered and held (EndedLines), of the code's steps (Answering,
+-- Laws of the output (LongLine, Output), of what is answered and held (EndedLines), of the code's steps (Answering,
 -- AnswerCall) and for callers (Bounds); the claims.
-pub mod LineEnd
 pub mod LongLine
 pub mod Output
 pub mod EndedLines

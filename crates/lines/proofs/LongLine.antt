@@ -1,4 +1,4 @@
--- A line over 200 bytes is not of the form: a letter and at most 16 numbers, each a space and at most 9 digits, are fewer bytes.
+-- A line over 200 bytes is not of the form: a letter and its numbers, each a space and at most 9 digits, are fewer bytes.
 use Prim.Native.Nat.{ℕ, _*_, _≤_}
 use native.Mathlib.Omega.{arith}
 use mathlib.Core.List.{List, [], _∷_}
@@ -13,7 +13,8 @@ use Rattle.walls.specs.declared.Wall.the-variants.{Storey, Cellar}
 use Rattle.walls.specs.Check.{check}
 use Rattle.line.specs.declared.Reading.{Reading}
 use Rattle.line.specs.declared.Reading.the-variants.{Read, Malformed}
-use Rattle.line.specs.Grammar.{fields, NineDigits, numbersOf, lineOf}
+use Rattle.walls.specs.Check.{numbersOf}
+use Rattle.line.specs.Grammar.{fields, NineDigits, lineOf}
 use Rattle.line.specs.Reading.{readLine, readingResult}
 use Rattle.text.proofs.Decimal.{decimal-length-bound}
 use Rattle.line.proofs.Claims.{reading-sound}

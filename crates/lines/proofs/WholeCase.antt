@@ -8,8 +8,9 @@ use Rattle.line.specs.Reading.{wallOf, answer, readLine}
 use Rattle.text.specs.Decimal.{decimal, decimalWithin}
 use Rattle.report.specs.Text.{signed, resultText}
 use Rattle.text.specs.Quoted.{bytes}
+use Rattle.text.specs.LineEnd.{inFront, linesOf}
 use Rattle.wallcheck.specs.Entry.{lineResult}
-use Rattle.lines.specs.Output.{inFront, linesOf, scheduleResult, lineText, outputOf}
+use Rattle.lines.specs.Output.{scheduleResult, lineText, outputOf}
 use Rattle.lines.specs.WholeCase.{WholeCase}
 
 pub whole-case : WholeCase

@@ -1,23 +1,13 @@
 -- What is answered of the bytes at hand, however the input is cut into blocks.
 use Prim.Native.Nat.{ℕ, zero, suc, _+_, _/_}
-use mathlib.Core.Bool.{Bool, false, cond, _||_}
+use mathlib.Core.Bool.{cond}
 use mathlib.Core.List.{List, [], _∷_}
-use lib.Dec.{eqb}
 use lib.ListN.{length, take, drop}
+use Rattle.text.specs.LineEnd.{ended, lineLength}
 use Rattle.buffer.specs.Overwrite.{overwrite}
 use Rattle.report.specs.Written.{Written, written}
 use Rattle.lines.specs.declared.Progress.{Progress}
 use Rattle.lines.specs.Output.{scheduleResult, outputOf}
-
--- Whether byte 10 is among the bytes.
-unfoldable pub ended : List ℕ → Bool
-ended [] = false
-ended (byte ∷ bytes) = eqb byte 10 || ended bytes
-
--- How many bytes stand before the first byte 10; all of them where there is none.
-unfoldable pub lineLength : List ℕ → ℕ
-lineLength [] = 0
-lineLength (byte ∷ bytes) = cond (eqb byte 10) 0 (suc (lineLength bytes))
 
 -- How many bytes the first `most` ended lines have, each with its byte 10. Where fewer are ended, how many these have.
 unfoldable pub endedLength : ℕ → List ℕ → ℕ

@@ -5,9 +5,10 @@ use mathlib.Core.List.{List, [], _∷_, _++_}
 use mathlib.Core.Path.{_≡_}
 use lib.ListN.{length, take}
 use Rattle.basis.specs.Result.{refusedWith}
+use Rattle.text.specs.LineEnd.{ended}
 use Rattle.wallcheck.specs.Entry.{lineResult}
 use Rattle.lines.specs.Output.{lineText, outputOf}
-use Rattle.lines.specs.Answer.{ended, answeredOf, unansweredOf, heldOf, roomFor, Answered, answered, answeredLast}
+use Rattle.lines.specs.Answer.{answeredOf, unansweredOf, heldOf, roomFor, Answered, answered, answeredLast}
 
 -- The rule "A line over 200 bytes is refusal 1" changes no result: such a line is "not a line of this form".
 abbrev pub LongLineMalformed : Type 0

@@ -2,23 +2,14 @@
 -- A line over 200 bytes is refusal 1; nonempty input behind the last byte 10 counts as a line."
 use Prim.Native.Nat.{ℕ}
 use mathlib.Core.Bool.{cond}
-use mathlib.Core.List.{List, [], _∷_, flatMap}
-use lib.Dec.{ltb, eqb}
+use mathlib.Core.List.{List, flatMap}
+use lib.Dec.{ltb}
 use lib.ListN.{length}
 use Rattle.basis.specs.declared.CheckResult.{CheckResult}
 use Rattle.basis.specs.Result.{refusedWith}
+use Rattle.text.specs.LineEnd.{linesOf}
 use Rattle.report.specs.Text.{resultText}
 use Rattle.wallcheck.specs.Entry.{lineResult}
-
--- A byte in front of some lines is the first byte of the first line, or a line of its own where there is none.
-unfoldable pub inFront : ℕ → List (List ℕ) → List (List ℕ)
-inFront byte [] = (byte ∷ []) ∷ []
-inFront byte (line ∷ lines) = (byte ∷ line) ∷ lines
-
--- The lines of an input: byte 10 ends a line, and nonempty input behind the last byte 10 is one.
-unfoldable pub linesOf : List ℕ → List (List ℕ)
-linesOf [] = []
-linesOf (byte ∷ bytes) = cond (eqb byte 10) ([] ∷ linesOf bytes) (inFront byte (linesOf bytes))
 
 -- "A line over 200 bytes is refusal 1".
 unfoldable pub scheduleResult : List ℕ → CheckResult

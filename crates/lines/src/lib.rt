@@ -1,23 +1,17 @@
 // The lines of an input that comes in blocks, each answered by the text of its result.
-ghost use mathlib.Core.Bool.{cond, true};
+ghost use mathlib.Core.Bool.{cond};
 ghost use mathlib.Core.Path.{_≡_};
 ghost use Prim.Native.Nat.{_+_, _≤_, min};
 ghost use lib.ListN.{length, take, drop};
 ghost use Rattle.buffer.specs.Overwrite.{overwrite};
 ghost use Rattle.lines.specs.Output.{outputOf};
-ghost use Rattle.lines.specs.Answer.{ended, lineLength, endedLength, answeredOf, roomFor, answered, answeredLast};
-
-// Byte 10.
-const LINE_END: u8 = b'\n';
+ghost use Rattle.lines.specs.Answer.{endedLength, answeredOf, roomFor, answered, answeredLast};
 
 // The text of every result fits this many bytes.
 const LONGEST_TEXT: usize = 64;
 
 // A line with this many bytes is refusal 1, so no more of a line that has no end yet is held.
 const OVERLONG: usize = 201;
-
-// How many bytes are searched at once for byte 10.
-const CHUNK: usize = 16;
 
 // How far `answer` has come.
 pub struct Progress {
@@ -36,7 +30,7 @@ pub fn answer(input: &mut [u8], held: usize, output: &mut [u8]) -> Progress
     let end = least(held, input.len());
     let counts = answer_lines(&input[..end], output);
     let taken = counts.taken;
-    let more = line_end(&input[..end], taken) < end;
+    let more = text::line_end(&input[..end], taken) < end;
     let left = kept(end - taken, more);
     move_to_front(input, taken, left);
     Progress {
@@ -73,7 +67,7 @@ fn answer_lines(block: &[u8], output: &mut [u8]) -> Counts
     let mut taken = 0;
     let mut written = 0;
     while 0 < left {
-        let end = line_end(block, taken);
+        let end = text::line_end(block, taken);
         if end == block.len() {
             break;
         }
@@ -83,74 +77,6 @@ fn answer_lines(block: &[u8], output: &mut [u8]) -> Counts
         left -= 1;
     }
     Counts { taken, written }
-}
-
-// Where the line that begins at `from` ends: at byte 10, or with the block.
-fn line_end(block: &[u8], from: usize) -> usize
-    requires { ⌜ from ≤ length (now block) ⌝ }
-    ensures { λ end. ⌜ end ≡ from + lineLength (drop from (now (block .entry))) ⌝ }
-{
-    let mut at = skip_chunks(block, from);
-    if CHUNK <= block.len() - at {
-        return first_end(block, at);
-    }
-    while at < block.len() {
-        if block[at] == LINE_END {
-            break;
-        }
-        at += 1;
-    }
-    at
-}
-
-// Where byte 10 stands first in a chunk that has one: in which half, in which half of that, and so on. The processor need not guess how long a line is.
-fn first_end(block: &[u8], from: usize) -> usize
-    requires { ⌜ (from + 16 ≤ length (now block)) × (ended (take 16 (drop from (now block))) ≡ true) ⌝ }
-    ensures { λ end. ⌜ end ≡ from + lineLength (drop from (now (block .entry))) ⌝ }
-{
-    let mut at = from;
-    if !any_end(block, at, 8) {
-        at += 8;
-    }
-    if !any_end(block, at, 4) {
-        at += 4;
-    }
-    if !any_end(block, at, 2) {
-        at += 2;
-    }
-    if !any_end(block, at, 1) {
-        at += 1;
-    }
-    at
-}
-
-// Passes over chunks without byte 10, up to one that has it or to where no whole chunk is left.
-fn skip_chunks(block: &[u8], from: usize) -> usize
-    requires { ⌜ from ≤ length (now block) ⌝ }
-    ensures within { λ at. ⌜ at ≤ length (now (block .entry)) ⌝ }
-    ensures none { λ at. ⌜ at + lineLength (drop at (now (block .entry))) ≡ from + lineLength (drop from (now (block .entry))) ⌝ }
-    ensures found { λ at. ⌜ (at + 16 ≤ length (now (block .entry)) → ended (take 16 (drop at (now (block .entry)))) ≡ true) ⌝ }
-{
-    let mut at = from;
-    while CHUNK <= block.len() - at {
-        if any_end(block, at, CHUNK) {
-            break;
-        }
-        at += CHUNK;
-    }
-    at
-}
-
-// Whether byte 10 is among the `count` bytes that begin at `from`. Looks at every one of them, so that the processor compares them all at once.
-fn any_end(block: &[u8], from: usize, count: usize) -> bool
-    requires { ⌜ from + count ≤ length (now block) ⌝ }
-    ensures { λ any. ⌜ any ≡ ended (take count (drop from (now (block .entry)))) ⌝ }
-{
-    let mut any = false;
-    for k in 0..count {
-        any = any | (block[from + k] == LINE_END);
-    }
-    any
 }
 
 // Moves `count` bytes from `from` on to the front.

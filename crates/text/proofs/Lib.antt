@@ -1,2 +1,3 @@
--- Laws of the decimal digits of a number.
+-- Laws of the decimal digits of a number, and of where lines end.
 pub mod Decimal
+pub mod LineEnd

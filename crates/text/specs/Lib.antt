@@ -1,3 +1,4 @@
--- Numbers and quoted texts as bytes.
+-- Numbers, quoted texts and lines as bytes.
 pub mod Decimal
 pub mod Quoted
+pub mod LineEnd

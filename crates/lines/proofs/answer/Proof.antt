@@ -24,7 +24,7 @@ taken-inside c =
     taken-within (now (a .input)) (now (a .output)) (a .held) (found c .least .ensures) (c .answer-lines .ensures .0)
 
 least-requires : tie.Need-least-requires
-least-requires c κs = search needs
+least-requires c κs = tt
 
 slice-reshare-prefix-answer-lines : tie.Need-slice-reshare-prefix-answer-lines
 slice-reshare-prefix-answer-lines c = search needs
@@ -33,7 +33,7 @@ slice-aggregate-answer-lines : tie.Need-slice-aggregate-answer-lines
 slice-aggregate-answer-lines c = sym (end-counted (c .before))
 
 answer-lines-requires : tie.Need-answer-lines-requires
-answer-lines-requires c κs = search needs
+answer-lines-requires c κs = tt
 
 slice-reshare-prefix-line-end : tie.Need-slice-reshare-prefix-line-end
 slice-reshare-prefix-line-end c = search needs
@@ -42,13 +42,13 @@ slice-aggregate-line-end : tie.Need-slice-aggregate-line-end
 slice-aggregate-line-end c = sym (end-counted (found (c .before .before .before)))
 
 line-end-requires : tie.Need-line-end-requires
-line-end-requires c κs = rw (end-counted (found (c .before .before .before))) (taken-inside (c .before .before .before))
+line-end-requires c κs = tt
 
 sub-kept : tie.Need-sub-kept
 sub-kept c = taken-inside (c .before .before .before .before)
 
 kept-requires : tie.Need-kept-requires
-kept-requires c κs = search needs
+kept-requires c κs = tt
 
 move-to-front-requires : tie.Need-move-to-front-requires
 move-to-front-requires c κs =

@@ -6,9 +6,8 @@ use mathlib.Core.Bool.{true}
 use mathlib.Core.Path.{_≡_, sym, _∙_}
 use lib.ListN.{length, drop}
 use denote.Ref.{now}
-use borrow.Author.Needs.{needs}
-use Rattle.lines.specs.Answer.{ended}
-use Rattle.lines.proofs.LineEnd.{ended-within, unended-within}
+use Rattle.text.specs.LineEnd.{ended}
+use Rattle.text.proofs.LineEnd.{ended-within, unended-within}
 use Rattle.lines.proofs.EndedLines.{endedLength-none, endedLength-zero}
 use Rattle.lines.proofs.Answering.{Answering, answering-none, answering-done, answering-write, line-within, output-length}
 use Rattle.lines.proofs.answer_lines.Statement.{statement}
@@ -31,7 +30,7 @@ loop-holds : tie.Need-loop-holds Inv-loop μ-loop
 loop-holds c = answering-none _ _
 
 line-end-requires : tie.Need-line-end-requires Inv-loop μ-loop
-line-end-requires c κs = c .before .loop .inv .within
+line-end-requires c κs = tt
 
 sub-check-line : tie.Need-sub-check-line Inv-loop μ-loop
 sub-check-line c = omega arith
@@ -43,7 +42,7 @@ part-check-line-end : tie.Need-part-check-line-end Inv-loop μ-loop
 part-check-line-end c = omega (arith, end-within c)
 
 check-line-requires : tie.Need-check-line-requires Inv-loop μ-loop
-check-line-requires c κs = search needs
+check-line-requires c κs = tt
 
 sub-write : tie.Need-sub-write Inv-loop μ-loop
 sub-write c = omega (arith, output-length (c .before .before .before .before .before .loop .inv))
@@ -55,7 +54,7 @@ part-write-end : tie.Need-part-write-end Inv-loop μ-loop
 part-write-end c = omega arith
 
 write-requires : tie.Need-write-requires Inv-loop μ-loop
-write-requires c κs = search needs
+write-requires c κs = tt
 
 loop-again : tie.Need-loop-again Inv-loop μ-loop
 loop-again c =

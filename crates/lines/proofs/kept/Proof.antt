@@ -7,7 +7,7 @@ returns : tie.Need-returns
 returns c = search needs
 
 least-requires : tie.Need-least-requires
-least-requires c κs = search needs
+least-requires c κs = tt
 
 returns-2 : tie.Need-returns-2
 returns-2 c = rw (c .before .if1 .left) (c .least .ensures)

@@ -1,44 +1,39 @@
--- Laws of `ended` and `lineLength`: where the first byte 10 stands.
+-- Laws of where lines end: of `ended`, `lineLength` and `linesOf`, and of the search for the end of a line.
 use Prim.Native.Nat.{ℕ, _+_, _≤_, _<_}
-use native.Mathlib.Nat.{add-zero}
+use native.Mathlib.Decide.{ℕ-discrete}
+use native.Mathlib.Nat.{add-zero, add-assoc}
 use native.Mathlib.Numerals.{add-one}
 use native.Mathlib.Omega.{arith}
 use mathlib.Core.Bool.{Bool, true, false, false≢true, not, _||_, or-assoc, or-true, or-false}
-use mathlib.Core.List.{List, [], _∷_, _++_, append-nil}
-use mathlib.Core.Path.{_≡_, refl, sym, ap, _∙_, subst⁻¹}
-use lib.Dec.{eqb, ltb}
+use mathlib.Core.List.{List, [], _∷_, _++_, append-assoc, append-nil}
+use mathlib.Core.Path.{_≡_, refl, sym, ap, _∙_}
+use lib.Dec.{ltb}
 use lib.ListN.{length, take, drop, getD, length-append, length-drop, take-append-drop, drop-of-length-le}
-use lib.Seq.{take-suc, take-append-add, take-append-seam, take-add, drop-cons, drop-drop, length-take-le}
-use borrow.Author.Tests.{eqb-true, ne-eqb, lt-ltb, le-ltb, not-true, not-false}
-use Rattle.basis.proofs.Choice.{cond-cases, or-left, or-right}
-use Rattle.lines.specs.Answer.{ended, lineLength}
+use lib.Seq.{take-append-add, take-append-seam, take-add, drop-append-add, drop-cons, drop-drop, length-take-le}
+use borrow.Author.Tests.{eqb-true, eq-eqb, ne-eqb, lt-ltb, le-ltb, not-true, not-false}
+use Rattle.text.specs.LineEnd.{ended, lineLength, inFront, linesOf}
 
 pub ended-append : (a b : List ℕ) → ended (a ++ b) ≡ (ended a || ended b)
 unfolding ended
 ended-append [] b = refl
 ended-append (byte ∷ a) b = rw (ended-append a b, or-assoc)
 
--- One byte more.
-pub ended-next : (l : List ℕ) (k : ℕ) → k < length l → ended (take (k + 1) l) ≡ (ended (take k l) || eqb (getD l k 0) 10)
-unfolding ended
-ended-next l k within = rw (add-one, take-suc l k 0, ended-append, or-false)
-
 pub ended-cases : (P : Type 0) (l : List ℕ) → (ended l ≡ true → P) → (ended l ≡ false → P) → P
-ended-cases P l = cond-cases (λ (l : List ℕ). P) (ended l) {x = l} {y = l}
+ended-cases P l is isnt = by (ended l) refl
+  where
+    by : (b : Bool) → ended l ≡ b → P
+    by true e = is e
+    by false e = isnt e
 
 -- ── no byte 10 ──
-pub unended-first : (byte : ℕ) (l : List ℕ) → ended (byte ∷ l) ≡ false → eqb byte 10 ≡ false
-unfolding ended
-unended-first byte l e = or-left (eqb byte 10) (ended l) e
-
-pub unended-behind : (byte : ℕ) (l : List ℕ) → ended (byte ∷ l) ≡ false → ended l ≡ false
-unfolding ended
-unended-behind byte l e = or-right (eqb byte 10) (ended l) e
-
 pub lineLength-append : (a b : List ℕ) → ended a ≡ false → lineLength (a ++ b) ≡ length a + lineLength b
-unfolding lineLength
+unfolding ended lineLength
 lineLength-append [] b e = omega arith
-lineLength-append (byte ∷ a) b e = rw (unended-first byte a e) (omega (arith, lineLength-append a b (unended-behind byte a e)))
+lineLength-append (byte ∷ a) b e =
+    elim (ℕ-discrete byte 10) [
+      | yes is ↦ absurd (false≢true (sym e ∙ rw (eq-eqb byte 10 is)))
+      | no isnt ↦ rw (ne-eqb byte 10 isnt) (omega (arith, lineLength-append a b (rw (ne-eqb byte 10 isnt) at e)))
+    ]
 
 pub lineLength-unended : (l : List ℕ) → ended l ≡ false → lineLength l ≡ length l
 unfolding lineLength
@@ -51,30 +46,74 @@ lineLength-line line rest e = lineLength-append line (10 ∷ rest) e ∙ add-zer
 
 pub ended-line : (line rest : List ℕ) → ended (line ++ 10 ∷ rest) ≡ true
 unfolding ended
-ended-line [] rest = refl
-ended-line (byte ∷ line) rest = rw (ended-line line rest, or-true)
-
-pub line-unended : (l : List ℕ) → ended (take (lineLength l) l) ≡ false
-unfolding ended lineLength
-line-unended [] = refl
-line-unended (byte ∷ l) = cond-cases (λ n. ended (take n (byte ∷ l)) ≡ false) (eqb byte 10) (λ e. refl) (λ e. rw e (line-unended l))
-
-pub line-split : (l : List ℕ) → ended l ≡ true → l ≡ take (lineLength l) l ++ 10 ∷ drop (lineLength l + 1) l
-unfolding ended lineLength
-line-split [] e = absurd (false≢true e)
-line-split (byte ∷ l) e =
-    cond-cases (λ n. byte ∷ l ≡ take n (byte ∷ l) ++ 10 ∷ drop (n + 1) (byte ∷ l)) (eqb byte 10)
-    (λ is. rw (eqb-true byte 10 is)) (λ isnt. rw add-one (rw add-one at (ap (λ (m : List ℕ). byte ∷ m) (line-split l (rw isnt at e)))))
+ended-line line rest = ended-append line (10 ∷ rest) ∙ or-true (ended line)
 
 -- Bytes with a byte 10 are a line, its end and a rest.
 pub line-cases : (P : List ℕ → Type 0) → ((line rest : List ℕ) → ended line ≡ false → P (line ++ 10 ∷ rest)) → (l : List ℕ) → ended l ≡ true → P l
-line-cases P all l e = subst⁻¹ P (line-split l e) (all _ _ (line-unended l))
+unfolding ended
+line-cases P all [] e = absurd (false≢true e)
+line-cases P all (byte ∷ l) e =
+    elim (ℕ-discrete byte 10) [
+      | yes is ↦ rw is (all [] l refl)
+      | no isnt ↦
+          let other = ne-eqb byte 10 isnt in line-cases (λ m. P (byte ∷ m)) (λ line rest u. all (byte ∷ line) rest (rw other u)) l (rw other at e)
+    ]
+
+pub line-unended : (l : List ℕ) → ended l ≡ true → ended (take (lineLength l) l) ≡ false
+line-unended =
+    line-cases (λ l. ended (take (lineLength l) l) ≡ false) (λ line rest e. rw (lineLength-line line rest e, take-append-seam) e)
 
 pub lineLength-ended : (l : List ℕ) → ended l ≡ true → lineLength l < length l
 lineLength-ended =
     line-cases (λ l. lineLength l < length l) (λ line rest e. simp (lineLength-line line rest e, length-append) (omega arith))
 
--- Where the line that begins at `from` ends says whether it is ended.
+-- The first line with its end.
+pub line-with-end : (l : List ℕ) → ended l ≡ true → take (lineLength l + 1) l ≡ take (lineLength l) l ++ 10 ∷ []
+line-with-end =
+    line-cases (λ l. take (lineLength l + 1) l ≡ take (lineLength l) l ++ 10 ∷ [])
+    (λ line rest e. rw (lineLength-line line rest e, take-append-add line (10 ∷ rest) 1, take-append-seam))
+
+-- ── the lines ──
+-- Nonempty bytes have a first line, and behind its end the other lines.
+linesOf-first : (l : List ℕ) → 0 < length l → linesOf l ≡ take (lineLength l) l ∷ linesOf (drop (lineLength l + 1) l)
+unfolding linesOf lineLength inFront
+linesOf-first [] some = absurd (omega arith)
+linesOf-first (byte ∷ []) some =
+    elim (ℕ-discrete byte 10) [
+      | yes is ↦ rw (eq-eqb byte 10 is)
+      | no isnt ↦ rw (ne-eqb byte 10 isnt)
+    ]
+linesOf-first (byte ∷ next ∷ l) some =
+    elim (ℕ-discrete byte 10) [
+      | yes is ↦ rw (eq-eqb byte 10 is)
+      | no isnt ↦ rw (ne-eqb byte 10 isnt, add-one) (ap (inFront byte) (rw add-one at (linesOf-first (next ∷ l) (omega arith))))
+    ]
+
+pub linesOf-line : (line rest : List ℕ) → ended line ≡ false → linesOf (line ++ 10 ∷ rest) ≡ line ∷ linesOf rest
+linesOf-line line rest e =
+    linesOf-first (line ++ 10 ∷ rest) (rw length-append (omega arith)) ∙ rw (lineLength-line line rest e, take-append-seam, drop-append-add)
+
+-- Bytes without byte 10 belong to the first line of what comes behind them.
+pub linesOf-append : (a t : List ℕ) → ended a ≡ false → 0 < length a → linesOf (a ++ t) ≡ (a ++ take (lineLength t) t) ∷ linesOf (drop (lineLength t + 1) t)
+linesOf-append a t e some =
+    linesOf-first (a ++ t) (rw length-append (omega arith)) ∙ rw (lineLength-append a t e, take-append-add, add-assoc, drop-append-add)
+
+-- Bytes that are whole lines, whatever comes behind.
+abbrev pub Whole : List ℕ → Type 0
+Whole a = (t : List ℕ) → linesOf (a ++ t) ≡ linesOf a ++ linesOf t
+
+pub whole-none : Whole []
+unfolding linesOf
+whole-none t = refl
+
+pub whole-line : (line rest : List ℕ) → ended line ≡ false → Whole rest → Whole (line ++ 10 ∷ rest)
+whole-line line rest e whole t = rw (append-assoc, linesOf-line line (rest ++ t) e, linesOf-line line rest e, whole t)
+
+pub whole-append : (a b : List ℕ) → Whole a → Whole b → Whole (a ++ b)
+whole-append a b whole-a whole-b t = rw (append-assoc, whole-a (b ++ t), whole-b t, whole-a b, append-assoc)
+
+-- ── the search for the end of the line that begins at a place ──
+-- Whether that line is ended.
 pub ended-before : (l : List ℕ) (from : ℕ) → from ≤ length l → ltb (from + lineLength (drop from l)) (length l) ≡ ended (drop from l)
 ended-before l from within =
     let end = from + lineLength (drop from l) in
@@ -92,20 +131,19 @@ unended-within l from all =
     ended-cases (ended (drop from l) ≡ false) (drop from l)
     (λ e. absurd (omega (arith, lineLength-ended (drop from l) e, length-drop from l))) (λ e. e)
 
--- The first line with its end.
-pub line-with-end : (l : List ℕ) → ended l ≡ true → take (lineLength l + 1) l ≡ take (lineLength l) l ++ 10 ∷ []
-line-with-end =
-    line-cases (λ l. take (lineLength l + 1) l ≡ take (lineLength l) l ++ 10 ∷ [])
-    (λ line rest e. rw (lineLength-line line rest e, take-append-add line (10 ∷ rest) 1, take-append-seam))
+-- It ends at once behind the last byte and at byte 10.
+pub end-behind : (l : List ℕ) (at : ℕ) → length l ≤ at → at ≡ at + lineLength (drop at l)
+unfolding lineLength
+end-behind l at all = omega (arith, ap lineLength (drop-of-length-le l all))
 
--- ── the search for the first line's end ──
+pub end-here : (l : List ℕ) (at : ℕ) → at < length l → getD l at 0 ≡ 10 → at ≡ at + lineLength (drop at l)
+unfolding lineLength
+end-here l at within is = rw (drop-cons l at 0 within, is) (omega arith)
+
 -- From byte `from` up to byte `at` there is no byte 10.
 pub record Passed (l : List ℕ) (from at : ℕ) : Type 0 where
   pub within : at ≤ length l
   pub end : at + lineLength (drop at l) ≡ from + lineLength (drop from l)
-
-pub passed-none : (l : List ℕ) (from : ℕ) → from ≤ length l → Passed l from from
-passed-none l from within = record { within = within; end = refl }
 
 pub passed-more : {l : List ℕ} {from at : ℕ} (n : ℕ) → Passed l from at → at + n ≤ length l → ended (take n (drop at l)) ≡ false → Passed l from (at + n)
 passed-more {l} {from} {at} n p within e =
@@ -121,18 +159,6 @@ unfolding ended
 passed-byte {l} {from} {at} p within isnt =
     passed-more 1 p (omega arith) (rw (drop-cons l at 0 within, ne-eqb (getD l at 0) 10 isnt))
 
--- The search stops at byte 10 or where the bytes end.
-pub passed-at-end : {l : List ℕ} {from at : ℕ} → Passed l from at → length l ≤ at → at ≡ from + lineLength (drop from l)
-unfolding lineLength
-passed-at-end {l} {from} {at} p all = omega (arith, p .end, ap lineLength (drop-of-length-le l all))
-
-pub passed-at-line-end : {l : List ℕ} {from at : ℕ} → Passed l from at → at < length l → getD l at 0 ≡ 10 → at ≡ from + lineLength (drop from l)
-unfolding lineLength
-passed-at-line-end {l} {from} {at} p within is =
-    let first : lineLength (drop at l) ≡ 0 = rw (drop-cons l at 0 within, is) in
-    omega (arith, p .end)
-
--- ── the search within bytes that have a byte 10 ──
 -- From byte `from` up to byte `at` there is no byte 10, and the next `width` bytes have one.
 pub record Found (l : List ℕ) (from at width : ℕ) : Type 0 where
   pub passed : Passed l from at
@@ -162,4 +188,4 @@ pub found-alone : {l : List ℕ} {from at : ℕ} → Found l from at 1 → at �
 unfolding ended
 found-alone {l} {from} {at} f =
     let within : at < length l = omega (arith, f .fits) in
-    passed-at-line-end (f .passed) within (eqb-true (getD l at 0) 10 (rw (drop-cons l at 0 within, or-false) at (f .some)))
+    end-here l at within (eqb-true (getD l at 0) 10 (rw (drop-cons l at 0 within, or-false) at (f .some))) ∙ f .passed .end

@@ -1,11 +1,11 @@
--- `lines::skip_chunks` meets its contract. The loop's invariant: no byte 10 was passed. Assumes nothing.
+-- `text::skip_chunks` meets its contract. The loop's invariant: no byte 10 was passed. Assumes nothing.
 use Prim.Native.Nat.{_-_}
 use native.Mathlib.Omega.{arith}
-use mathlib.Core.Path.{sym, _∙_}
+use mathlib.Core.Path.{refl, sym, _∙_}
 use lib.ListN.{length}
-use Rattle.lines.proofs.LineEnd.{Passed, passed-none, passed-more}
-use Rattle.lines.proofs.skip_chunks.Statement.{statement}
-use Rattle.lines.proofs.skip_chunks.Tie as tie
+use Rattle.text.proofs.LineEnd.{Passed, passed-more}
+use Rattle.text.proofs.skip_chunks.Statement.{statement}
+use Rattle.text.proofs.skip_chunks.Tie as tie
 
 abbrev Inv-loop : tie.InvT-loop
 Inv-loop block from at₀ at = Passed block from at
@@ -14,7 +14,7 @@ abbrev μ-loop : tie.MeasureT-loop
 μ-loop block from at₀ at = length block - at
 
 loop-holds : tie.Need-loop-holds Inv-loop μ-loop
-loop-holds c = passed-none _ _ (c .before .pre)
+loop-holds c = record { within = c .before .pre; end = refl }
 
 sub-loop : tie.Need-sub-loop Inv-loop μ-loop
 sub-loop c = c .loop .inv .within

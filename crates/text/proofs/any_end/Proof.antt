@@ -1,18 +1,19 @@
--- `lines::any_end` meets its contract. The loop's invariant: `any` says whether byte 10 is among the first k bytes. Assumes nothing.
+-- `text::any_end` meets its contract. The loop's invariant: `any` says whether byte 10 is among the first k bytes. Assumes nothing.
 use Prim.Native.Nat.{ℕ, _+_, _-_, _≤_, _<_}
+use native.Mathlib.Numerals.{add-one}
 use native.Mathlib.Omega.{arith}
-use mathlib.Core.Bool.{Bool, _||_}
+use mathlib.Core.Bool.{Bool, _||_, or-false}
 use mathlib.Core.List.{List}
 use mathlib.Core.Path.{_≡_, refl}
 use lib.Dec.{eqb}
 use lib.ListN.{length, take, drop, getD, length-drop}
-use lib.Seq.{getD-drop}
+use lib.Seq.{take-suc, getD-drop}
 use denote.Ref.{now}
 use borrow.Author.Needs.{needs}
-use Rattle.lines.specs.Answer.{ended}
-use Rattle.lines.proofs.LineEnd.{ended-next}
-use Rattle.lines.proofs.any_end.Statement.{statement}
-use Rattle.lines.proofs.any_end.Tie as tie
+use Rattle.text.specs.LineEnd.{ended}
+use Rattle.text.proofs.LineEnd.{ended-append}
+use Rattle.text.proofs.any_end.Statement.{statement}
+use Rattle.text.proofs.any_end.Tie as tie
 
 abbrev Inv-loop : tie.InvT-loop
 Inv-loop block from count any₀ k₀ any k = (k ≤ count) × (any ≡ ended (take k (drop from block)))
@@ -23,9 +24,10 @@ abbrev μ-loop : tie.MeasureT-loop
 any-more :
     (block : List ℕ) (from k : ℕ) {any : Bool} → from + k < length block → any ≡ ended (take k (drop from block))
     → (any || eqb (getD block (from + k) 0) 10) ≡ ended (take (k + 1) (drop from block))
+unfolding ended
 any-more block from k within e =
     let inside : k < length (drop from block) = rw length-drop (omega arith) in
-    rw (e, ended-next (drop from block) k inside, getD-drop)
+    rw (e, add-one, take-suc (drop from block) k 0 inside, ended-append, or-false, getD-drop)
 
 loop-holds : tie.Need-loop-holds Inv-loop μ-loop
 unfolding ended

@@ -1,14 +1,15 @@
--- `lines::first_end` meets its contract: behind each test the bytes that have the first byte 10 are half as many. Assumes nothing.
+-- `text::first_end` meets its contract: behind each test the bytes that have the first byte 10 are half as many. Assumes nothing.
 use native.Mathlib.Omega.{arith}
 use mathlib.Core.Logic.{⊎-elim}
+use mathlib.Core.Path.{refl}
 use denote.Ref.{now}
 use borrow.Author.Needs.{needs}
-use Rattle.lines.proofs.LineEnd.{Found, passed-none, found-first, found-second, found-alone}
-use Rattle.lines.proofs.first_end.Statement.{statement}
-use Rattle.lines.proofs.first_end.Tie as tie
+use Rattle.text.proofs.LineEnd.{Found, found-first, found-second, found-alone}
+use Rattle.text.proofs.first_end.Statement.{statement}
+use Rattle.text.proofs.first_end.Tie as tie
 
 in-sixteen : (c : tie.Start) → Found (now (c .args .block)) (c .args .from) (c .args .from) 16
-in-sixteen c = record { passed = passed-none _ _ (omega (arith, c .pre .0)); fits = c .pre .0; some = c .pre .1 }
+in-sixteen c = record { passed = record { within = omega (arith, c .pre .0); end = refl }; fits = c .pre .0; some = c .pre .1 }
 
 in-eight : (c : tie.Joined1) → let a = c .before .before .before .args in Found (now (a .block)) (a .from) (c .if1 .at) 8
 in-eight c =
