@@ -1,39 +1,14 @@
--- The claims about the record of a row. Its numbers are those of the entries, place by place, so both follow from the claims about one cell. Assumes nothing.
+-- The claims about the record of a list of entries. Its numbers are those of the entries, place by place, so both follow from the claims about one cell. Assumes nothing.
 use Prim.Native.Nat.{ℕ, _<_}
 use mathlib.Core.List.{List, [], _∷_, map, cons-eq-cons, nil≢cons, cons≢nil}
 use mathlib.Core.Logic.{_↔_}
-use mathlib.Core.Path.{_≡_, refl, ap}
-use lib.ListN.{getD}
-use Rattle.storey.specs.declared.StoreyWall.{StoreyWall}
-use Rattle.worksheet.specs.Cell.{cellBound}
-use Rattle.storey.specs.Record.{numbers}
+use mathlib.Core.Path.{_≡_, refl, sym, ap, _∙_}
 use Rattle.basis.specs.Range.{AllBelow}
-use Rattle.worksheet.specs.Row.{Entry, fixed, cell, entryNumber, rowWall, entries, Each, EntryIs, RowIsItsNumbers, NoneIfNotWhole, OtherCellsLeaveNone}
+use Rattle.storey.specs.Record.{numbers, storeyOf}
+use Rattle.worksheet.specs.Cell.{cellBound}
+use Rattle.worksheet.specs.Entry.{Entry, fixed, cell, entryNumber, entriesWall, Each, EntryIs, TurnIntoTheirRecord, NoneIfNotWhole, OthersLeaveNone}
+use Rattle.worksheet.specs.Row.{entries, RowIsItsNumbers, OtherCellsLeaveNone}
 use Rattle.worksheet.proofs.Number.{cell-is-its-value, other-cells-are-none}
-
-abbrev fromNumbers : List ℕ → StoreyWall
-fromNumbers ns = record {
-  usage = getD ns 0 0;
-  thickness = getD ns 1 0;
-  height = getD ns 2 0;
-  length = getD ns 3 0;
-  held = getD ns 4 0;
-  distance = getD ns 5 0;
-  support = getD ns 6 0;
-  span = getD ns 7 0;
-  bearing = getD ns 8 0;
-  strength = getD ns 9 0;
-  bonded = getD ns 10 0;
-  dead = getD ns 11 0;
-  imposed = getD ns 12 0;
-  floorload = getD ns 13 0;
-  building = getD ns 14 0;
-  storeys = getD ns 15 0;
-}
-
--- The numbers are the whole record.
-numbers-injective : (v w : StoreyWall) → numbers v ≡ numbers w → v ≡ w
-numbers-injective v w e = ap fromNumbers e
 
 entry-is : (e : Entry) (n : ℕ) → n < cellBound → (entryNumber e ≡ n) ↔ EntryIs e n
 entry-is (fixed k) n small = (λ h. h, λ h. h)
@@ -50,15 +25,22 @@ each-is (e ∷ es) (n ∷ ns) small =
       λ h. cons-eq-cons .1 (first .1 (h .0), others .1 (h .1)),
     )
 
-pub row-is-its-numbers : RowIsItsNumbers
-row-is-its-numbers r w small =
-    let each = each-is (entries r) (numbers w) small in
-    (λ h. each .0 (ap numbers h), λ h. numbers-injective (rowWall r) w (each .1 h))
-
 each-none : (es : List Entry) → Each NoneIfNotWhole es (map entryNumber es)
 each-none [] = tt
 each-none (fixed k ∷ es) = (tt, each-none es)
 each-none (cell x ∷ es) = (other-cells-are-none x, each-none es)
 
+-- Entries in all places, so that the record has the number of each and no other.
+module _ (es : List Entry) (all : numbers (entriesWall es) ≡ map entryNumber es) where
+  pub entries-are-numbers : TurnIntoTheirRecord es
+  entries-are-numbers w small =
+      let each = each-is es (numbers w) small in (λ h. each .0 (sym all ∙ ap numbers h), λ h. ap storeyOf (each .1 h))
+
+  pub others-leave-none : OthersLeaveNone es
+  others-leave-none = rw all (each-none es)
+
+pub row-is-its-numbers : RowIsItsNumbers
+row-is-its-numbers r = entries-are-numbers (entries r) refl
+
 pub other-cells-leave-none : OtherCellsLeaveNone
-other-cells-leave-none r = each-none (entries r)
+other-cells-leave-none r = others-leave-none (entries r) refl

@@ -2,12 +2,12 @@
 use Prim.Native.Nat.{ℕ, _*_, _/_, _%_, _<_}
 use native.Mathlib.Nat.{eq-of-mul-eq-mul-right, mul-div-cancel, mul-mod-left, mul-one, mul-right-comm, div-add-mod', zero-div, zero-mul, le-of-lt}
 use native.Mathlib.Omega.{arith}
-use mathlib.Core.Bool.{Bool, true, false, false≢true, Bool·beq, cond, not, _&&_, _||_}
+use mathlib.Core.Bool.{Bool, true, false, cond, not, _&&_, _||_}
 use mathlib.Core.Logic.{_⊎_, inl, inr, _↔_}
 use mathlib.Core.Path.{_≡_, refl, sym, ap, _∙_, subst}
 use lib.IntN.{pos}
 use lib.Dec.{T, eqb, ltb, eqb→eq, ltb→lt, lt→ltb, lit<}
-use lib.Ieee.{Float, nan, inf, fin, binary64, up, down, level, eq, ofInt}
+use lib.Ieee.{Float, nan, inf, fin, binary64, up, down, ofInt}
 use lib.Ieee.Back.{round-whole}
 use lib.Ieee.Bits.{is-true}
 use lib.Ieee.Exact.{HasValue}
@@ -105,35 +105,3 @@ every-number-has-cell n small =
     let x = ofInt binary64 (pos n) in
     let whole : Whole false n 1 n = (sym (mul-one n), unsigned) in
     (x, ofInt-fits binary64 (pos n), value-whole x false n 1 n (lit< tt) (round-whole binary64 false n (le-of-lt small)) .1 whole)
-
--- ---- a cell that equals a float of a whole number
-
-zero-factor : (a c : ℕ) → 0 < c → a * c ≡ 0 → a ≡ 0
-zero-factor a c c-pos e = eq-of-mul-eq-mul-right c c-pos a 0 (e ∙ sym (zero-mul c))
-
-equal-whole : (y x : Float) (n : ℕ) → HasValue y false n 1 → eq y x ≡ true → IsWhole x n
-unfolding eq
-equal-whole nan x n v e = absurd v
-equal-whole (inf t) x n v e = absurd v
-equal-whole (fin t m d) nan n v e = absurd (false≢true e)
-equal-whole (fin t m d) (inf s) n v e = absurd (false≢true e)
-equal-whole (fin t m d) (fin s k g) n v e =
-    let a = m * up d * down g in
-    let tests : T (level t a s (k * up g * down d)) = subst T (sym e) tt in
-    let size : m * up d ≡ n * down d = sym (mul-one (m * up d)) ∙ v .1 in (
-      eq-of-mul-eq-mul-right (down d) (down-pos d) (k * up g) (n * down g)
-          (sym (eqb→eq a (k * up g * down d) (and-l (eqb a (k * up g * down d)) (Bool·beq t s || eqb a 0) tests))
-          ∙ ap (λ (b : ℕ). b * down g) size
-          ∙ mul-right-comm n (down d) (down g)),
-      λ negative. zero-factor n (down d) (down-pos d) (sym size ∙ zero-factor (m * up d) (down g) (down-pos g)
-          (unlike-zero t s a (v .0) negative (and-r (eqb a (k * up g * down d)) (Bool·beq t s || eqb a 0) tests))),
-    )
-  where
-    unlike-zero : (t s : Bool) (a : ℕ) → t ≡ false → s ≡ true → T (Bool·beq t s || eqb a 0) → a ≡ 0
-    unlike-zero true s a p q h = absurd (false≢true (sym p))
-    unlike-zero false false a p q h = absurd (false≢true q)
-    unlike-zero false true a p q h = eqb→eq a 0 h
-
-pub equal-number : (x : Float) (n : ℕ) → n < cellBound → eq (ofInt binary64 (pos n)) x ≡ true → cellNumber x ≡ n
-unfolding ofInt
-equal-number x n small e = whole-number x n small (equal-whole (ofInt binary64 (pos n)) x n (round-whole binary64 false n (le-of-lt small)) e)

@@ -6,34 +6,31 @@ use Prim.Native.Nat.{ℕ, zero, suc, _+_, _-_, _*_, _/_, _%_, _^_, _≤_, _<_}
 use native.Mathlib.Decide.{decLe}
 use native.Mathlib.Nat.{
   div-le-self,
-  div-mul-le-self,
   eq-of-mul-eq-mul-right,
   le-add-right,
   le-of-eq,
   le-of-mul-le-mul-right,
   le-trans,
-  lt-of-le-of-lt,
   lt-of-lt-of-le,
-  mod-eq-of-lt,
   mod-lt,
   mul-assoc,
   mul-div-cancel,
   mul-le-mul-right,
   not-le-of-lt,
-  suc-mul,
-  zero-mul,
 }
 use native.Mathlib.Omega.{arith}
 use mathlib.Core.Bool.{Bool, true, false, cond}
-use mathlib.Core.Logic.{_⊎_, inl, inr, _↔_}
+use mathlib.Core.Logic.{_↔_}
 use mathlib.Core.Path.{_≡_, refl, sym, ap, _∙_, subst}
+use lib.Count.{trailingZeros}
 use lib.Dec.{leb, eqb, lit<, lit≤}
 use lib.Pow.{pow-add, pow-mono, pow-pos, shl-lt}
-use lib.Ieee.{Float, nan, inf, binary64, odd, ofFields, ofBits}
+use lib.Ieee.{nan, inf, binary64, odd, ofFields, ofBits}
 use lib.Ieee.Exact.{odd-sign}
 use borrow.Author.Tests.{le-leb, lt-leb, ne-eqb}
-use Rattle.worksheet.specs.Cell.{IsWhole, NoWhole, cellBound, noNumber, cellNumber}
+use Rattle.worksheet.specs.Cell.{IsWhole, cellBound, noNumber, cellNumber}
 use Rattle.worksheet.proofs.Number.{Whole, unsigned, value-whole, cell-is-its-value, other-cells-are-none}
+use Rattle.worksheet.proofs.Zeros.{zeros-multiple, multiple-zeros, few-zeros}
 
 -- ---- the units of an exponent and the digits t; an exponent of 0 has no leading digit, and counts as 1
 
@@ -79,122 +76,111 @@ units-above (suc j) t k =
     let high : 1127 ≤ 52 + j = omega arith in
     le-trans (pow-mono high) (le-trans (le-of-eq (pow-add 2 52 j)) (mul-le-mul-right (2 ^ j) (le-add-right (2 ^ 52) t)))
 
--- ---- which whole number an exponent e and the digits t are
+-- ---- which whole number above 0 an exponent e and the digits t are
 
-module _ (e t : ℕ) (not-zero : e ≡ 0 → t ≡ 0 → ⊥) where
-  some-units : units e t ≡ 0 → ⊥
-  some-units h = let none = units-zero e t h in not-zero (none .0) (none .1)
-
-  fields-negative : NoWhole (ofFields binary64 true e t)
-  fields-negative n small w = let whole = units-sound true e t n w in some-units (whole .0 ∙ ap (λ (k : ℕ). k * 2 ^ 1074) (whole .1 refl))
-
-  fields-below : (s : Bool) → t < 2 ^ 52 → e < 1023 → NoWhole (ofFields binary64 s e t)
-  fields-below s digits low n small w = some-units (multiple (units e t) n (2 ^ 1074) (units-below e t digits low) (units-sound s e t n w .0))
-    where
-      multiple : (a n c : ℕ) → a < c → a ≡ n * c → a ≡ 0
-      multiple a zero c small e = e ∙ zero-mul c
-      multiple a (suc k) c small e = let z : ⊥ = omega (arith, suc-mul k c) in absurd z
-
-fields-above : (s : Bool) (e t : ℕ) → 1075 < e → NoWhole (ofFields binary64 s e t)
-fields-above s e t high n small w =
-    not-le-of-lt small (le-of-mul-le-mul-right (le-trans (units-above e t high) (le-of-eq (units-sound s e t n w .0))) (pow-pos 1074))
-
-fields-between : (e t n : ℕ) → 1023 ≤ e → e ≤ 1075 → IsWhole (ofFields binary64 false e t) n ↔ (2 ^ 52 + t ≡ n * 2 ^ (1075 - e))
-fields-between zero t n low high = let z : ⊥ = omega arith in absurd z
-fields-between (suc j) t n low high =
+between : (e t n : ℕ) → 1023 ≤ e → e ≤ 1075 → (units e t ≡ n * 2 ^ 1074) ↔ (2 ^ 52 + t ≡ n * 2 ^ (1075 - e))
+between zero t n low high = let z : ⊥ = omega arith in absurd z
+between (suc j) t n low high =
     let one = 2 ^ (1075 - suc j) in
     let same : n * one * 2 ^ j ≡ n * 2 ^ 1074 =
     mul-assoc n one (2 ^ j) ∙ ap (λ (k : ℕ). n * k) (sym (pow-add 2 (1075 - suc j) j) ∙ ap (λ (k : ℕ). 2 ^ k) (rest j high)) in (
-      λ w. eq-of-mul-eq-mul-right (2 ^ j) (pow-pos j) (2 ^ 52 + t) (n * one) (units-sound false (suc j) t n w .0 ∙ sym same),
-      λ h. units-complete false (suc j) t n (below j high) (ap (λ (k : ℕ). k * 2 ^ j) h ∙ same, unsigned),
+      λ h. eq-of-mul-eq-mul-right (2 ^ j) (pow-pos j) (2 ^ 52 + t) (n * one) (h ∙ sym same),
+      λ h. ap (λ (k : ℕ). k * 2 ^ j) h ∙ same,
     )
   where
     rest : (j : ℕ) → suc j ≤ 1075 → 1075 - suc j + j ≡ 1074
     rest j h = omega arith
 
-    below : (j : ℕ) → suc j ≤ 1075 → suc j < 2047
-    below j h = omega arith
+module _ (e t n : ℕ) (positive : 0 < n) (whole : units e t ≡ n * 2 ^ 1074) where
+  at-least-one : t < 2 ^ 52 → 1023 ≤ e
+  at-least-one digits = elim (decLe 1023 e) [
+    | yes h ↦ h
+    | no h ↦ let low : e < 1023 = omega arith in
+        absurd (not-le-of-lt (units-below e t digits low) (le-trans (mul-le-mul-right (2 ^ 1074) positive) (le-of-eq (sym whole))))
+  ]
+
+  below-bound : n < cellBound → e ≤ 1075
+  below-bound small = elim (decLe e 1075) [
+    | yes h ↦ h
+    | no h ↦ let high : 1075 < e = omega arith in
+        absurd (not-le-of-lt small (le-of-mul-le-mul-right (le-trans (units-above e t high) (le-of-eq whole)) (pow-pos 1074)))
+  ]
 
 -- ---- the number of the pattern b
 
-abbrev pub size : ℕ → ℕ
+abbrev size : ℕ → ℕ
 size b = b % 2 ^ 63
-
--- The exponent with the sign above it, which the code tests first; and the exponent alone.
-abbrev pub head : ℕ → ℕ
-head b = b / 2 ^ 52
 
 abbrev exponent : ℕ → ℕ
 exponent b = size b / 2 ^ 52
 
-abbrev pub significand : ℕ → ℕ
-significand b = 2 ^ 52 + b % 2 ^ 52
+abbrev digits : ℕ → ℕ
+digits b = b % 2 ^ 52
 
-size-zero : (b : ℕ) → exponent b ≡ 0 → b % 2 ^ 52 ≡ 0 → size b ≡ 0
-size-zero b e t = omega arith
+abbrev significand : ℕ → ℕ
+significand b = 2 ^ 52 + digits b
 
-size-fields : (b : ℕ) → size b ≡ 0 → (exponent b ≡ 0) × (b % 2 ^ 52 ≡ 0)
-size-fields b h = omega arith
+size-zero : (b : ℕ) → (exponent b ≡ 0) × (digits b ≡ 0) → size b ≡ 0
+size-zero b h = omega arith
 
-unsigned-head : (b : ℕ) → b < 2 ^ 63 → exponent b ≡ head b
-unsigned-head b h = omega arith
+-- r is what is left of the bits of 2 ^ 53 - 1 without b, wrapped where b is the larger.
+pub record Difference (b r : ℕ) : Type 0 where
+  pub wraps : (r + b) % 2 ^ 64 ≡ 1076 * 2 ^ 52 - 1
+  pub fits : r < 2 ^ 64
+  pub bits-fit : b < 2 ^ 64
 
 module _ (b : ℕ) where
-  abbrev read : Bool → Float
-  read s = ofFields binary64 s (exponent b) (b % 2 ^ 52)
+  abbrev Reads : ℕ → Type 0
+  Reads n = IsWhole (ofFields binary64 (leb (2 ^ 63) b) (exponent b) (digits b)) n
 
-  number-none : NoWhole (read (leb (2 ^ 63) b)) → cellNumber (ofBits binary64 b) ≡ noNumber
+  none-read : ((n : ℕ) → n < cellBound → Reads n → ⊥) → noNumber ≡ cellNumber (ofBits binary64 b)
   unfolding ofBits
-  number-none none = other-cells-are-none (ofBits binary64 b) none
+  none-read none = sym (other-cells-are-none (ofBits binary64 b) none)
 
-  number-whole : (n : ℕ) → n < cellBound → IsWhole (read (leb (2 ^ 63) b)) n → cellNumber (ofBits binary64 b) ≡ n
+  whole-read : (n : ℕ) → n < cellBound → Reads n → n ≡ cellNumber (ofBits binary64 b)
   unfolding ofBits
-  number-whole n small w = cell-is-its-value (ofBits binary64 b) n small .1 w
+  whole-read n small w = sym (cell-is-its-value (ofBits binary64 b) n small .1 w)
 
-  pub number-zero : size b ≡ 0 → cellNumber (ofBits binary64 b) ≡ 0
+  pub number-zero : size b ≡ 0 → 0 ≡ cellNumber (ofBits binary64 b)
   number-zero h =
-      number-whole 0 (lit< tt) (rw (size-fields b h .0, size-fields b h .1) (units-complete (leb (2 ^ 63) b) 0 0 0 (lit< tt) (refl, λ t. refl)))
+      let fields : (exponent b ≡ 0) × (digits b ≡ 0) = omega arith in
+      whole-read 0 (lit< tt) (rw (fields .0, fields .1) (units-complete (leb (2 ^ 63) b) 0 0 0 (lit< tt) (refl, λ t. refl)))
 
-  -- Not zero, and negative, below 1, from 2 ^ 53 on, or infinite.
-  pub number-outside : (size b ≡ 0 → ⊥) → (head b < 1023) ⊎ (1075 < head b) → cellNumber (ofBits binary64 b) ≡ noNumber
-  number-outside not-zero out =
-      let some : exponent b ≡ 0 → b % 2 ^ 52 ≡ 0 → ⊥ = λ e t. not-zero (size-zero b e t) in
-      elim (decLe (2 ^ 63) b) [
-        | yes signed ↦ number-none (rw (le-leb (2 ^ 63) b signed) (fields-negative (exponent b) (b % 2 ^ 52) some))
-        | no h ↦ number-none (unsigned-outside some (omega arith) out)
-      ]
-    where
-      unsigned-outside : (exponent b ≡ 0 → b % 2 ^ 52 ≡ 0 → ⊥) → b < 2 ^ 63 → (head b < 1023) ⊎ (1075 < head b) → NoWhole (read (leb (2 ^ 63) b))
-      unsigned-outside some h (inl low) =
-          fields-below (exponent b) (b % 2 ^ 52) some (leb (2 ^ 63) b) (mod-lt b (pow-pos 52)) (omega (arith, unsigned-head b h))
-      unsigned-outside some h (inr high) = fields-above (leb (2 ^ 63) b) (exponent b) (b % 2 ^ 52) (omega (arith, unsigned-head b h))
+  -- `places` of the significand's digits stand behind the point, where there are at most 52; otherwise the significand does not end in as many zeros.
+  module _ (r : ℕ) (difference : Difference b r) where
+    abbrev places : ℕ
+    places = r / 2 ^ 52
 
-  -- From 1 to below 2 ^ 53. `one` is the significand of 1 at this exponent; the digits behind the point are 0 exactly if the significand is
-  -- a multiple of it.
-  module _ (low : 1023 ≤ head b) (high : head b ≤ 1075) where
-    abbrev one : ℕ
-    one = 2 ^ (1075 - head b)
+    module _ (zeros : places ≤ trailingZeros 64 (significand b)) where
+      multiple : (q : ℕ) × (significand b ≡ q * 2 ^ places)
+      multiple = zeros-multiple 64 places (significand b) zeros
 
-    between-whole : (n : ℕ) → IsWhole (read (leb (2 ^ 63) b)) n ↔ (significand b ≡ n * one)
-    between-whole n =
-        let below : b < 2 ^ 63 = omega arith in
-        rw (lt-leb (2 ^ 63) b below, unsigned-head b below) (fields-between (head b) (b % 2 ^ 52) n low high)
+      pub places-few : places ≤ 52
+      places-few = omega (arith, few-zeros places (multiple .0) (significand b) 53 (multiple .1) (omega arith) (omega arith))
 
-    significand-small : significand b < cellBound
-    significand-small = with-leading (b % 2 ^ 52) (mod-lt b (pow-pos 52))
+      pub number-whole : significand b / 2 ^ places ≡ cellNumber (ofBits binary64 b)
+      number-whole =
+          let q = multiple .0 in
+          let quotient : significand b / 2 ^ places ≡ q = ap (λ (k : ℕ). k / 2 ^ places) (multiple .1) ∙ mul-div-cancel q (pow-pos places) in
+          let small : q < cellBound = omega (arith, quotient, div-le-self (significand b) (2 ^ places)) in
+          let low : 1023 ≤ exponent b = omega (arith, places-few) in
+          let high : exponent b ≤ 1075 = omega (arith, places-few) in
+          let same : places ≡ 1075 - exponent b = omega (arith, places-few) in
+          let exact = between (exponent b) (digits b) q low high .1 (multiple .1 ∙ ap (λ (k : ℕ). q * 2 ^ k) same) in
+          quotient
+          ∙ whole-read q small
+          (rw (lt-leb (2 ^ 63) b (omega (arith, places-few))) (units-complete false (exponent b) (digits b) q (omega arith) (exact, unsigned)))
 
-    -- Shifted right and left again, which drops nothing at the top.
-    shifted-back : significand b / one * one % 2 ^ 64 ≡ significand b / one * one
-    shifted-back = mod-eq-of-lt (omega (arith, div-mul-le-self (significand b) one, significand-small))
-
-    pub number-exact : significand b / one * one % 2 ^ 64 ≡ significand b → cellNumber (ofBits binary64 b) ≡ significand b / one
-    number-exact exact =
-        number-whole (significand b / one) (lt-of-le-of-lt (div-le-self (significand b) one) significand-small)
-        (between-whole (significand b / one) .1 (sym exact ∙ shifted-back))
-
-    pub number-fraction : (significand b / one * one % 2 ^ 64 ≡ significand b → ⊥) → cellNumber (ofBits binary64 b) ≡ noNumber
-    number-fraction differs =
-        number-none
+    pub number-none : (places ≤ trailingZeros 64 (significand b) → ⊥) → (size b ≡ 0 → ⊥) → noNumber ≡ cellNumber (ofBits binary64 b)
+    number-none differs not-zero =
+        none-read
         (λ n small w.
-        let e = between-whole n .0 w in
-        differs (shifted-back ∙ ap (λ (k : ℕ). k / one * one) e ∙ ap (λ (k : ℕ). k * one) (mul-div-cancel n (pow-pos (1075 - head b))) ∙ sym e))
+        let whole = units-sound (leb (2 ^ 63) b) (exponent b) (digits b) n w in
+        let not-none : n ≡ 0 → ⊥ = λ h. not-zero (size-zero b (units-zero (exponent b) (digits b) (whole .0 ∙ ap (λ (k : ℕ). k * 2 ^ 1074) h))) in
+        let positive : 0 < n = omega arith in
+        let without-sign : b < 2 ^ 63 = elim (decLe (2 ^ 63) b) [ yes signed ↦ absurd (not-none (whole .1 (le-leb (2 ^ 63) b signed))) | no h ↦ omega arith ] in
+        let low = at-least-one (exponent b) (digits b) n positive (whole .0) (mod-lt b (pow-pos 52)) in
+        let high = below-bound (exponent b) (digits b) n positive (whole .0) small in
+        let same : 1075 - exponent b ≡ places = omega arith in
+        let exact : significand b ≡ n * 2 ^ places = between (exponent b) (digits b) n low high .0 (whole .0) ∙ ap (λ (k : ℕ). n * 2 ^ k) same in
+        differs (rw exact (multiple-zeros 64 places n (omega arith))))

@@ -1,4 +1,5 @@
 // The whole number that a cell holds, taken from the bits of its f64.
+use std::num::wrapping_sub_u64;
 ghost use mathlib.Core.Path.{_≡_};
 ghost use Rattle.worksheet.specs.Cell.{cellNumber};
 
@@ -8,54 +9,29 @@ const SIGN: u64 = 0x8000_0000_0000_0000;
 
 const LEADING: u64 = 0x10_0000_0000_0000;
 
-// The exponent from 1 to below 2, and the one at which the last digit counts 1.
-const EXPONENT_OF_ONE: u64 = 1023;
-
-const EXPONENT_OF_UNITS: u64 = 1075;
+// The bits of 2^53 - 1, the largest number: none of its digits stands behind the point.
+const LARGEST: u64 = 0x433f_ffff_ffff_ffff;
 
 // Stands for a cell that is no whole number; no range has it.
 const NO_NUMBER: u64 = 0xffff_ffff_ffff_ffff;
 
-// From 2^52 on the last digit of an f64 counts 1.
-const UNITS: f64 = 4503599627370496.0;
-
-// The usual case first: a whole number below 2^52 stands in the digits of its sum with 2^52. Whether the digits are x
-// is tested, so that nothing rests on how a sum is rounded; what fails the test is left to `by_bits`.
+// Each exponent below that of the largest number moves one more digit behind the point. The number is whole where
+// these digits are 0, and what stands before them is then the number. A significand ends in 52 zeros at most; below 1
+// more than 52 digits stand behind the point, and for a negative or too large x the difference wraps to more than 1000.
 pub fn number(x: f64) -> u64
-    ensures { λ whole. ⌜ whole ≡ cellNumber x ⌝ }
-{
-    let sum = x + UNITS;
-    if sum == sum {
-        let digits = f64::to_bits(sum) % LEADING;
-        if digits as f64 == x {
-            return digits;
-        }
-    }
-    by_bits(x)
-}
-
-// The same by sign, exponent and digits, for every cell.
-fn by_bits(x: f64) -> u64
     ensures { λ whole. ⌜ whole ≡ cellNumber x ⌝ }
 {
     if x != x {
         return NO_NUMBER; // a NaN
     }
     let bits = f64::to_bits(x);
-    // With the sign above it, so that a negative number is among the large ones.
-    let exponent = bits / LEADING;
-    if (exponent < EXPONENT_OF_ONE) | (exponent > EXPONENT_OF_UNITS) {
-        if bits % SIGN == 0 {
-            return 0; // zero of either sign
-        }
-        return NO_NUMBER; // below 1, negative, from 2^53 on, or infinite
-    }
-    // The last `places` of the significand's digits stand behind the point.
-    let places = EXPONENT_OF_UNITS - exponent;
+    let places = wrapping_sub_u64(LARGEST, bits) / LEADING;
     let significand = LEADING + bits % LEADING;
-    let whole = significand >> places;
-    if whole << places == significand {
-        return whole;
+    if places <= u64::trailing_zeros(significand) as u64 {
+        return significand >> places;
     }
-    NO_NUMBER // a fraction
+    if bits % SIGN == 0 {
+        return 0; // zero of either sign
+    }
+    NO_NUMBER // a fraction, negative, too large, or infinite
 }

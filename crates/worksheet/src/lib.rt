@@ -1,10 +1,12 @@
 // A worksheet row: the numbers of an `S` record as f64 cells, turned into the record.
 mod cell;
+pub mod cells;
 
 use storey::StoreyWall;
 ghost use mathlib.Core.Path.{_≡_};
 ghost use Rattle.worksheet.specs.Cell.{cellNumber};
-ghost use Rattle.worksheet.specs.Row.{heldSides, distanceEntry, entryNumber, rowWall};
+ghost use Rattle.worksheet.specs.Entry.{entryNumber};
+ghost use Rattle.worksheet.specs.Row.{heldSides, distanceEntry, rowWall};
 
 // How the wall is held: on two sides, on three with the distance of the free edge, or on four with the spacing of the
 // holding walls.
@@ -40,9 +42,9 @@ impl Holding {
         ensures { λ sides. ⌜ sides ≡ heldSides self ⌝ }
     {
         match self {
-            Holding::TwoSides => 2,
-            Holding::ThreeSides(_) => 3,
-            Holding::FourSides(_) => 4,
+            Holding::TwoSides => StoreyWall::TWO_SIDES,
+            Holding::ThreeSides(_) => StoreyWall::THREE_SIDES,
+            Holding::FourSides(_) => StoreyWall::FOUR_SIDES,
         }
     }
 
