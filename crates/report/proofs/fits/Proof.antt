@@ -1,5 +1,5 @@
 -- `report::fits` meets its contract: five numbers below 10 ^ 8 make at most 64 bytes; any other text is measured. Assumes nothing.
-use Prim.Native.Nat.{ℕ, _<_, _≤_, _^_}
+use Prim.Native.Nat.{ℕ, _≤_}
 use native.Mathlib.Omega.{arith}
 use mathlib.Core.Bool.{Bool, true}
 use mathlib.Core.List.{List, [], _∷_}
@@ -13,7 +13,7 @@ use mir.Val.{SFits}
 use borrow.Author.Needs.{needs}
 use borrow.Author.Tests.{leb-true, ltb-true, le-leb}
 use Rattle.basis.specs.declared.CheckResult.{CheckResult}
-use Rattle.basis.proofs.Range.{chain, chain-every, everyHolds-all}
+use Rattle.basis.proofs.Choice.{chain, chain-true}
 use Rattle.report.specs.Text.{resultText}
 use Rattle.report.proofs.Text.{text-fits}
 use Rattle.report.proofs.fits.Statement.{statement}
@@ -22,25 +22,17 @@ use Rattle.report.proofs.fits.Tie as tie
 abbrev short : ℕ → Bool
 short n = ltb n 100000000
 
-short-below : (n : ℕ) → short n ≡ true → n < 10 ^ 11
-short-below n h = omega (arith, ltb-true n 100000000 h)
-
 -- The tests of the short case, in the order of the code. `size` is the magnitude of the spare.
 abbrev tests : CheckResult → ℕ → ℕ → List Bool
 tests r size room = leb 64 room ∷ short (r .refusal) ∷ short (r .second) ∷ short (r .load) ∷ short (r .resistance) ∷ short size ∷ []
 
 short-fits : (r : CheckResult) (size room : ℕ) → size ≡ natAbs (r .spare) → chain true (tests r size room) ≡ true → length (resultText r) ≤ room
 short-fits r size room e passed =
-    let all = everyHolds-all (tests r size room) (sym (chain-every true (tests r size room)) ∙ passed) in
+    let all = chain-true true (tests r size room) passed .1 in
     omega (
       arith,
-      leb-true 64 room (all .0),
-      text-fits r
-          (short-below (r .refusal) (all .1 .0))
-          (short-below (r .second) (all .1 .1 .0))
-          (short-below (r .load) (all .1 .1 .1 .0))
-          (short-below (r .resistance) (all .1 .1 .1 .1 .0))
-          (rw (← e) (short-below size (all .1 .1 .1 .1 .1 .0))),
+      leb-true,
+      text-fits r (omega (arith, ltb-true)) (omega (arith, ltb-true)) (omega (arith, ltb-true)) (omega (arith, ltb-true)) (rw (← e) (omega (arith, ltb-true))),
     )
 
 magnitude-requires : tie.Need-magnitude-requires
