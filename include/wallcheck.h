@@ -1,4 +1,7 @@
-/* Simplified check of unreinforced masonry walls (EN 1996-3 with its German annex, as condensed in document 01).
+/* Simplified check of unreinforced masonry walls (EN 1996-3 with its German annex). MANUAL.md has the rules.
+ *
+ * Version 2. A change of a struct or of a function's arguments raises the first number of the version and of the
+ * shared library's name (libwallcheck.so.2); a changed result or a new function raises the second number.
  *
  * The functions keep no state and allocate nothing: any number of threads may call them at once. The caller owns
  * every buffer; the library reads or writes it during the call only and keeps no pointer to it. A null pointer is
@@ -35,13 +38,17 @@ typedef struct {
     int64_t spare;           /* resistance - load */
 } wallcheck_result;
 
-/* A worksheet row: a storey wall in cells. Each cell must be exactly a whole number in its range (negative zero
- * counts as 0); anything else is refusal 2. In brackets: document 01's name. */
+/* A worksheet row: a storey wall in cells, the 16 numbers of its line in the line's order. Each cell must be exactly a
+ * whole number in its range (negative zero counts as 0); a fraction, an infinity, a NaN and every other number is
+ * refusal 2. In brackets: the letter of the formulas. */
 typedef struct {
-    double usage;     /* (use) 1 inner, 2 single-leaf outer, 3 bearing leaf or party wall, 4 garage outer */
+    double usage;     /* 1 inner, 2 single-leaf outer, 3 bearing leaf or party wall, 4 garage outer */
     double thickness; /* (t) 1..1000 */
     double height;    /* (h) clear height, 1..20000 */
     double length;    /* (w) wall length, 1..20000 */
+    double held;      /* 2, 3 or 4 sides held */
+    double distance;  /* (c) two sides: 0; three: distance of the free edge, 1..30000; four: spacing of the holding
+                       * walls, 1..30000 */
     double support;   /* 1 intermediate, 2 end under a floor, 3 end under a roof, 4 end with centring strip */
     double span;      /* (L) 1..20000 */
     double bearing;   /* (a) bearing depth, 1..thickness */
@@ -52,10 +59,11 @@ typedef struct {
     double floorload; /* (q) imposed floor load in N/m2, 0..100000 */
     double building;  /* (H) building height, 1..200000 */
     double storeys;   /* (n) full storeys, 1..20 */
-    uint64_t held;    /* 2, 3 or 4 sides held; anything else is refusal 2 */
-    double distance;  /* (c) 1..30000. Three sides: distance of the free edge; four: spacing of the holding walls;
-                       * two: not looked at */
 } wallcheck_cells;
+
+/* The edition of the rules by which this library computes: a number to file with the results. 100 is the first edition;
+ * later ones have greater numbers. */
+uint64_t wallcheck_edition(void);
 
 /* The result of a line of `len` bytes, without an end-of-line byte:
  * S and 16 numbers for a storey wall, C and 10 numbers for a cellar wall. */

@@ -1,9 +1,9 @@
 -- What the public entries answer, for every line, row and buffer.
 use Prim.Native.Nat.{ℕ}
 use mathlib.Core.Bool.{cond}
-use mathlib.Core.List.{List, _++_}
+use mathlib.Core.List.{List}
 use lib.Dec.{ltb}
-use lib.ListN.{length, drop}
+use lib.ListN.{length}
 use Rattle.basis.specs.declared.CheckResult.{CheckResult}
 use Rattle.basis.specs.Result.{refusedWith}
 use Rattle.walls.specs.declared.Wall.the-variants.{Storey}
@@ -11,6 +11,9 @@ use Rattle.walls.specs.Check.{check}
 use Rattle.line.specs.Reading.{readLine, readingResult}
 use Rattle.worksheet.specs.declared.Row.{Row}
 use Rattle.worksheet.specs.Row.{rowWall}
+use Rattle.worksheet.specs.declared.cells.Cells.{Cells}
+use Rattle.worksheet.specs.Cells.{cellsWall}
+use Rattle.buffer.specs.Overwrite.{overwrite}
 use Rattle.report.specs.Text.{resultText}
 
 -- A line: refusal 1 where it is not of the form, else the result of its record.
@@ -18,8 +21,16 @@ unfoldable pub lineResult : List ℕ → CheckResult
 lineResult line = readingResult check (readLine line)
 
 -- "Its result equals that of the line with the same numbers." A cell that is no whole number is in no range, hence refusal 2.
-unfoldable pub rowResult : Row → CheckResult
+abbrev pub rowResult : Row → CheckResult
 rowResult row = check (Storey (rowWall row))
+
+-- The cells of a row, held and c among them: those of the record with the same numbers. Held and c are as on a line, by their ranges.
+abbrev pub cellsResult : Cells → CheckResult
+cellsResult cells = check (Storey (cellsWall cells))
+
+-- Which rules a result is computed by: 100 for document 01, then the number of the last request that has landed.
+abbrev pub edition : ℕ
+edition = 100
 
 -- What is handed back and what a lent buffer holds then.
 pub record Lent : Type 0 where
@@ -32,4 +43,4 @@ unfoldable pub lent : List ℕ → CheckResult → Lent
 lent buffer result =
     cond (ltb (length buffer) 64)
     (record { result = refusedWith 20; buffer = buffer })
-    (record { result = result; buffer = resultText result ++ drop (length (resultText result)) buffer })
+    (record { result = result; buffer = overwrite buffer 0 (resultText result) })

@@ -1,4 +1,3 @@
 -- The public entries: what each answers, and demands 1 to 3 restated for them.
 pub mod Entry
-pub mod Interface
 pub mod Demands

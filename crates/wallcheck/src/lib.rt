@@ -8,7 +8,7 @@ use line::Reading;
 use worksheet::Row;
 
 // The least length of a lent buffer; the text of every result fits it. A shorter one is refusal 20, before all others.
-pub(crate) const LEAST_BUFFER: usize = 64;
+const LEAST_BUFFER: usize = 64;
 
 // The result of a line, of any bytes.
 pub fn check_line(line: &[u8]) -> CheckResult
@@ -27,27 +27,27 @@ pub fn check_row(row: Row) -> CheckResult
     row.wall().check()
 }
 
-// The result of a line, also written to `out` as text. The text is written from where the check has put the result: what reads a copy of it would wait
-// for the copy.
-pub fn check_line_into(line: &[u8], out: &mut [u8]) -> CheckResult
-    ensures { λ result. ⌜ record { result = result; buffer = now (out .exit) } ≡ lent (now (out .entry)) (lineResult (now (line .entry))) ⌝ }
+// What a lent buffer gets of a result, whatever it is the result of, and what is handed back.
+pub(crate) fn lend(result: CheckResult, out: &mut [u8]) -> CheckResult
+    ensures { λ handed. ⌜ record { result = handed; buffer = now (out .exit) } ≡ lent (now (out .entry)) result ⌝ }
 {
-    let mut result = CheckResult::refused(20);
-    if LEAST_BUFFER <= out.len() {
-        result = check_line(line);
-        report::write(result, out);
+    if out.len() < LEAST_BUFFER {
+        return CheckResult::refused(20);
     }
+    report::write(result, out);
     result
+}
+
+// The result of a line, also written to `out` as text.
+pub fn check_line_into(line: &[u8], out: &mut [u8]) -> CheckResult
+    ensures { λ handed. ⌜ record { result = handed; buffer = now (out .exit) } ≡ lent (now (out .entry)) (lineResult (now (line .entry))) ⌝ }
+{
+    lend(check_line(line), out)
 }
 
 // The result of a worksheet row, also written to `out` as text.
 pub fn check_row_into(row: Row, out: &mut [u8]) -> CheckResult
-    ensures { λ result. ⌜ record { result = result; buffer = now (out .exit) } ≡ lent (now (out .entry)) (rowResult row) ⌝ }
+    ensures { λ handed. ⌜ record { result = handed; buffer = now (out .exit) } ≡ lent (now (out .entry)) (rowResult row) ⌝ }
 {
-    let mut result = CheckResult::refused(20);
-    if LEAST_BUFFER <= out.len() {
-        result = check_row(row);
-        report::write(result, out);
-    }
-    result
+    lend(check_row(row), out)
 }
