@@ -23,7 +23,9 @@ def read_lines():
 
 
 def read_rows():
-    """Cells, held, distance and result of each row."""
+    """The 16 cells and the result of each row."""
     for row, result in read('rows.txt').items():
-        *cells, held, distance = row.split()
-        yield list(map(float, cells)), int(held), float(distance), result
+        cells = list(map(float, row.split()))
+        if len(cells) != 16:
+            raise ValueError(f'{row} has not 16 cells')
+        yield cells, result

@@ -3,8 +3,7 @@
     python3 oracle/generate.py lines N
         a schedule of N lines; the last one is not ended by byte 10, unless it is empty
     python3 oracle/generate.py rows N
-        N rows, one a line, each as 16 words of 16 hexadecimal digits: the bits of the 14 cells in document 01's
-        order, held, the bits of the distance
+        N rows, one a line, each as 16 words of 16 hexadecimal digits: the bits of the cells in document 01's order
 
 The same N gives the same lines, and a smaller N gives the first of them. Behind the edges, which are fewer than
 20000, come random lines and rows without end.
@@ -333,7 +332,7 @@ def schedule_of(lines):
     return stream + b'\n' if stream.endswith(b'\n') else stream
 
 
-# ---- Rows: 16 words, the bits of the cells in order, held, the bits of the distance
+# ---- Rows: 16 words, the bits of the cells in order
 
 def bits(value):
     return struct.unpack('<Q', struct.pack('<d', value))[0]
@@ -349,76 +348,73 @@ SPECIAL = [
     INFINITY | 1, INFINITY | (1 << 51) - 1, SIGN | INFINITY | 1,             # signalling NaN
     INFINITY | 1 << 51, INFINITY | (1 << 52) - 1, (1 << 64) - 1, INFINITY | 1 << 51 | 175,  # quiet NaN
 ]
-HELD = [0, 1, 2, 3, 4, 5, 6, 2**8 + 2, 2**16 + 3, 2**32 + 2, 2**32 + 4, 2**63 + 2, 2**64 - 2, 2**64 - 1]
+HELD, DISTANCE, DEAD = map(StoreyWall._fields.index, ('held', 'c', 'G'))
 
 
 def words_of(wall):
-    cells, held, distance = row_of(wall)
-    return [*map(bits, cells), held, bits(distance)]
+    return list(map(bits, row_of(wall)))
+
+
+def with_word(words, place, word):
+    return [*words[:place], word, *words[place + 1:]]
 
 
 def cell_edges():
-    """Bounds and thresholds of each cell with the floating-point numbers around them, the distance's last."""
-    edges = [{*ends, *changes} for ends, changes in zip(STOREY_RANGES, storey_thresholds(S(held=3, c=1500)))]
-    use, t, h, w, _, c, *others = edges
-    for place, values in zip([*range(14), 15], [use, t, h, w, *others, c]):
-        yield place, sorted({bits(cell) for value in {*values, 175} for cell in (
+    """Bounds and thresholds of each cell with the floating-point numbers around them."""
+    edges = zip(STOREY_RANGES, storey_thresholds(S(held=3, c=1500)))
+    for place, (ends, changes) in enumerate(edges):
+        yield place, sorted({bits(cell) for value in {*ends, *changes, 175} for cell in (
             float(value), value - 1.0, value + 1.0, value + 0.5, -float(value),
             math.nextafter(value, math.inf), math.nextafter(value, -math.inf))} | set(SPECIAL))
 
 
 def rows_at_cell_edges():
     for wall in (A, S(held=3, c=1500), S(held=4, c=3000)):
-        base = words_of(wall)
         for place, values in cell_edges():
             for value in values:
-                yield [*base[:place], value, *base[place + 1:]]
+                yield with_word(words_of(wall), place, value)
 
 
 def rows_of_holdings():
-    for held in HELD:
-        for distance in (0.0, -0.0, 1.0, 1500.0, 1500.5, 30000.0, 30001.0, math.inf, math.nan):
-            yield [*words_of(A)[:14], held, bits(distance)]
+    """Numbers of sides, and what would be one in fewer bits, against distances."""
+    sides = [float(n) for n in (*range(-4, 8), 2**8 + 2, 2**16 + 3, 2**32 + 2, 2**32 + 4, 2**63, 2**64)]
+    around = [math.nextafter(n, end) for n in (2.0, 3.0, 4.0) for end in (-math.inf, math.inf)]
+    for held in (*sides, *around, -0.0, 2.5, 3.5, 4.5, 1e308, math.inf, -math.inf, math.nan):
+        for distance in (0.0, -0.0, 5e-324, 0.5, 1.0, 5.0, -5.0, 1500.0, 1500.5, 30000.0, 30001.0, math.inf, math.nan):
+            yield with_word(with_word(words_of(A), HELD, bits(held)), DISTANCE, bits(distance))
 
 
 def rows_of_powers():
     """G with each exponent, and with each single bit of the fraction set."""
-    base = words_of(A)
     for exponent in range(2048):
         for fraction in (0, (1 << 52) - 1):
-            yield [*base[:9], exponent << 52 | fraction, *base[10:]]
+            yield with_word(words_of(A), DEAD, exponent << 52 | fraction)
     for exponent in range(1023, 1023 + 25):
         for bit in range(52):
-            yield [*base[:9], exponent << 52 | 1 << bit, *base[10:]]
-
-
-def rows_of_records(walls):
-    """A row for each record; a row on two sides has no c."""
-    for wall in walls:
-        if wall.held != 2 or wall.c == 0:
-            yield words_of(wall)
+            yield with_word(words_of(A), DEAD, exponent << 52 | 1 << bit)
 
 
 def random_rows(numbers):
-    for words in rows_of_records(random_storey_walls(numbers)):
-        if words[14] == 2 or numbers.one_in(20):
-            words[15] = numbers.one_of(SPECIAL)
+    for words in map(words_of, random_storey_walls(numbers)):
+        if numbers.one_in(20):
+            words[DISTANCE] = numbers.one_of(SPECIAL)
         if numbers.one_in(8):
-            place = numbers.within(0, 13)
-            words[place] = numbers.one_of((words[place] + 1, max(words[place] - 1, 0), words[place] ^ SIGN,
-                                           words[place] ^ 1 << numbers.within(0, 63), numbers.one_of(SPECIAL)))
+            place = numbers.within(0, len(words) - 1)
+            word = words[place]
+            words[place] = numbers.one_of((min(word + 1, (1 << 64) - 1), max(word - 1, 0), word ^ SIGN,
+                                           word ^ 1 << numbers.within(0, 63), numbers.one_of(SPECIAL)))
         yield words
 
 
 def rows(count):
-    edges = chain(rows_of_records(storey_edges()), rows_at_cell_edges(), rows_of_holdings(), rows_of_powers())
+    edges = chain(map(words_of, storey_edges()), rows_at_cell_edges(), rows_of_holdings(), rows_of_powers())
     return islice(chain(edges, random_rows(Numbers(4))), count)
 
 
 def storey_records(count):
     """Records that both a line and a row can hold."""
     walls = chain(storey_edges(), random_storey_walls(Numbers(5)))
-    return islice((wall for wall in walls if max(wall) <= LARGEST and (wall.held != 2 or wall.c == 0)), count)
+    return islice((wall for wall in walls if max(wall) <= LARGEST), count)
 
 
 def main():

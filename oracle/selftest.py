@@ -97,7 +97,7 @@ def program():
 def rows():
     for wall in records():
         if isinstance(wall, StoreyWall):
-            agree(f'row of {line_of(wall)}', check_row(*row_of(wall)), check(wall))
+            agree(f'row of {line_of(wall)}', check_row(row_of(wall)), check(wall))
     for cell, number in [(-0.0, 0), (175.0, 175), (2.0**53, 2**53), (-1.0, -1), (0.5, None), (5e-324, None),
                          (nextafter(175, 0), None), (nextafter(175, 200), None), (inf, None), (-inf, None),
                          (nan, None)]:
@@ -108,8 +108,8 @@ def callers():
     lines = read_lines()
     for line, result in lines.items():
         agree(line, check_line(line), result)
-    for cells, held, distance, result in read_rows():
-        agree(f'row {cells} {held} {distance}', check_row(cells, held, distance), result)
+    for cells, result in read_rows():
+        agree(f'row {cells}', check_row(cells), result)
     for wall in records():
         agree(f'{line_of(wall)} stands in callers/cases.txt', line_of(wall) in lines, True)
 

@@ -276,15 +276,12 @@ def whole_number(cell):
 
 
 def row_of(wall):
-    """Cells, held and distance of the row that counts as the line of a storey record."""
-    use, t, h, w, held, c, *others = wall
-    return [float(number) for number in (use, t, h, w, *others)], held, float(c)
+    """The cells of the row that counts as the line of a storey record."""
+    return [float(number) for number in wall]
 
 
-def check_row(cells, held, distance):
-    """The result of a row: 14 cells (all numbers of the line but held and c, in its order), the number of
-    held sides and, for three and four of them, the cell of the distance."""
-    use, t, h, w, *others = map(whole_number, cells)
-    c = 0 if held == 2 else whole_number(distance)
-    wall = StoreyWall(use, t, h, w, held, c, *others)
-    return refused(2) if None in wall else check_storey(wall)
+def check_row(cells):
+    """The result of a row of 16 cells, the numbers of a line in its order: that of the line with the same numbers, and
+    refusal 2 where a cell is no whole number."""
+    numbers = [whole_number(cell) for cell in cells]
+    return refused(2) if None in numbers else check_storey(StoreyWall(*numbers))

@@ -333,15 +333,10 @@ fn line_result(line: &[u8]) -> CheckResult {
 /// The numbers of a row, if all its cells are whole. What is no number of 64 bits becomes another one and so differs.
 #[inline(always)]
 fn row_numbers(row: &Row) -> Option<[u64; STOREY_NUMBERS]> {
-    let distance = if row.held == 2 { 0.0 } else { row.distance };
-    let mut numbers = [0; STOREY_NUMBERS];
-    numbers[4] = row.held;
-    numbers[5] = distance as u64;
-    let mut whole = numbers[5] as f64 == distance;
-    for (place, &cell) in row.cells.iter().enumerate() {
-        let number = cell as u64;
+    let numbers = row.map(|cell| cell as u64);
+    let mut whole = true;
+    for (&number, &cell) in numbers.iter().zip(row) {
         whole &= number as f64 == cell;
-        numbers[if place < 4 { place } else { place + 2 }] = number;
     }
     whole.then_some(numbers)
 }

@@ -15,13 +15,8 @@ pub struct CheckResult {
     pub spare: i64,
 }
 
-/// A worksheet row: the 14 cells in document 01's order, the number of held sides, and the distance.
-#[derive(Clone, Copy, Debug)]
-pub struct Row {
-    pub cells: [f64; 14],
-    pub held: u64,
-    pub distance: f64,
-}
+/// A worksheet row: the 16 cells in document 01's order.
+pub type Row = [f64; 16];
 
 /// A line over this many bytes is refusal 1.
 const LONGEST_LINE: usize = 200;

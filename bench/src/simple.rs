@@ -355,16 +355,10 @@ fn whole_number(cell: f64) -> Option<u64> {
 
 fn row_wall(row: &Row) -> Option<StoreyWall> {
     let numbers: Vec<u64> = row
-        .cells
         .iter()
         .map(|&cell| whole_number(cell))
         .collect::<Option<_>>()?;
-    let distance = if row.held == 2 {
-        0
-    } else {
-        whole_number(row.distance)?
-    };
-    storey_wall(&[&numbers[..4], &[row.held, distance], &numbers[4..]].concat())
+    storey_wall(&numbers)
 }
 
 fn into(result: CheckResult, out: &mut [u8]) -> CheckResult {

@@ -10,9 +10,12 @@
 
 #include "wallcheck.h"
 
+enum { EDITION = 100, CELLS = 16 };
+
 _Static_assert(sizeof(wallcheck_result) == 40, "five numbers of eight bytes");
-_Static_assert(sizeof(wallcheck_cells) == 128, "sixteen numbers of eight bytes");
-_Static_assert(offsetof(wallcheck_cells, held) == 14 * sizeof(double), "the 14 cells come first");
+_Static_assert(sizeof(wallcheck_cells) == CELLS * sizeof(double), "sixteen cells");
+_Static_assert(offsetof(wallcheck_cells, held) == 4 * sizeof(double), "held is the fifth");
+_Static_assert(offsetof(wallcheck_cells, storeys) == 15 * sizeof(double), "the storeys are the last");
 
 enum { GUARD = 16, LONGEST = 100, FILL = 0xA5 };
 static const size_t out_lengths[] = {0, 63, 64, LONGEST};
@@ -83,12 +86,15 @@ static void run_row(const char *line, wallcheck_cells cells, wallcheck_result ex
     }
 }
 
-static wallcheck_cells cells_of(const double first[14], uint64_t held, double distance)
+/* The row of 16 numbers with a space before each but the first. */
+static wallcheck_cells cells_of(const char *numbers)
 {
+    double x[CELLS];
+    char *rest = (char *)numbers;
+    for (int i = 0; i < CELLS; i++)
+        x[i] = strtod(rest, &rest);
     wallcheck_cells cells;
-    memcpy(&cells, first, 14 * sizeof first[0]);
-    cells.held = held;
-    cells.distance = distance;
+    memcpy(&cells, x, sizeof cells);
     return cells;
 }
 
@@ -103,30 +109,17 @@ static wallcheck_result result_of(const char *numbers)
     return (wallcheck_result){refusal, length_or_need, load, resistance, spare};
 }
 
-/* Runs a line, and its row if it is of the form `S`; c with two sides is no row. */
+/* Runs a line, and its row if it is of the form `S`. */
 static void run_line_case(const char *line, wallcheck_result expected)
 {
     run_line(line, (const uint8_t *)line, strlen(line), expected);
-    if (expected.refusal == 1 || line[0] != 'S')
-        return;
-    double x[16], cells[14];
-    char *rest = (char *)line + 1;
-    for (int i = 0; i < 16; i++)
-        x[i] = strtod(rest, &rest);
-    memcpy(cells, x, 4 * sizeof x[0]);
-    memcpy(cells + 4, x + 6, 10 * sizeof x[0]);
-    if (x[4] != 2 || x[5] == 0)
-        run_row(line, cells_of(cells, (uint64_t)x[4], x[5]), expected);
+    if (expected.refusal != 1 && line[0] == 'S')
+        run_row(line, cells_of(line + 1), expected);
 }
 
 static void run_row_case(const char *row, wallcheck_result expected)
 {
-    double cells[14];
-    char *rest = (char *)row;
-    for (int i = 0; i < 14; i++)
-        cells[i] = strtod(rest, &rest);
-    uint64_t held = strtoull(rest, &rest, 10);
-    run_row(row, cells_of(cells, held, strtod(rest, &rest)), expected);
+    run_row(row, cells_of(row), expected);
 }
 
 /* A null pointer with length 0, as line and as buffer. */
@@ -167,6 +160,7 @@ int main(int argc, char **argv)
     run_file(argv[1], run_line_case);
     run_file(argv[2], run_row_case);
     run_null();
+    report("edition", "", wallcheck_edition() == EDITION);
     if (different > 0) {
         fprintf(stderr, "c: %ld cases differ\n", different);
         return 1;

@@ -16,8 +16,9 @@ import generate
 import walls
 from cases import read_lines, read_rows
 
-CELLS = ('usage thickness height length support span bearing strength bonded dead imposed floorload building '
-         'storeys').split()
+EDITION = 100
+CELLS = ('usage thickness height length held distance support span bearing strength bonded dead imposed floorload '
+         'building storeys').split()
 GUARD = bytes(range(0xA0, 0xB0))
 FILL = 0xA5
 
@@ -28,21 +29,22 @@ class Result(ctypes.Structure):
 
 
 class Cells(ctypes.Structure):
-    _fields_ = [*((name, ctypes.c_double) for name in CELLS), ('held', ctypes.c_uint64), ('distance', ctypes.c_double)]
+    _fields_ = [(name, ctypes.c_double) for name in CELLS]
 
 
 class Library:
     def __init__(self, path):
         library = ctypes.CDLL(path)
         line, out = [ctypes.c_char_p, ctypes.c_size_t], [ctypes.c_void_p, ctypes.c_size_t]
+        self.edition = self.entry(library.wallcheck_edition, [], ctypes.c_uint64)
         self.line = self.entry(library.wallcheck_line, line)
         self.line_into = self.entry(library.wallcheck_line_into, line + out)
         self.row = self.entry(library.wallcheck_row, [Cells])
         self.row_into = self.entry(library.wallcheck_row_into, [Cells] + out)
 
     @staticmethod
-    def entry(function, argument_types):
-        function.argtypes, function.restype = argument_types, Result
+    def entry(function, argument_types, result_type=Result):
+        function.argtypes, function.restype = argument_types, result_type
         return function
 
 
@@ -69,8 +71,7 @@ def cells_of(words):
 
 
 def row_result(words):
-    *cells, _, distance = struct.unpack('<14dQd', struct.pack('<16Q', *words))
-    return walls.check_row(cells, words[14], distance)
+    return walls.check_row(struct.unpack('<16d', struct.pack('<16Q', *words)))
 
 
 def lend(entry, arguments, length):
@@ -91,11 +92,11 @@ def compare_cases(library, comparison):
     for line, expected in read_lines().items():
         comparison.equal(line, numbers_of(library.line(line, len(line))), expected)
         compared += 1
-    for cells, held, distance, expected in read_rows():
-        got = numbers_of(library.row(Cells(*cells, held, distance)))
-        comparison.equal((cells, held, distance), got, expected)
+    for cells, expected in read_rows():
+        comparison.equal(cells, numbers_of(library.row(Cells(*cells))), expected)
         compared += 1
-    return compared
+    comparison.equal('edition', library.edition(), EDITION)
+    return compared + 1
 
 
 def compare_lines(library, comparison, count):

@@ -11,7 +11,7 @@ pub struct CheckResult {
     pub spare: i64,
 }
 
-/// A worksheet row.
+/// A worksheet row: the 16 numbers of a storey wall's line, in its order.
 #[repr(C)]
 #[derive(Clone, Copy, Debug, Default)]
 pub struct Cells {
@@ -19,6 +19,8 @@ pub struct Cells {
     pub thickness: f64,
     pub height: f64,
     pub length: f64,
+    pub held: f64,
+    pub distance: f64,
     pub support: f64,
     pub span: f64,
     pub bearing: f64,
@@ -29,30 +31,27 @@ pub struct Cells {
     pub floorload: f64,
     pub building: f64,
     pub storeys: f64,
-    pub held: u64,
-    pub distance: f64,
 }
 
-impl Cells {
-    /// The row with these 14 cells, in document 01's order.
-    pub fn new(cells: [f64; 14], held: u64, distance: f64) -> Cells {
+impl From<[f64; 16]> for Cells {
+    fn from(cells: [f64; 16]) -> Cells {
         Cells {
             usage: cells[0],
             thickness: cells[1],
             height: cells[2],
             length: cells[3],
-            support: cells[4],
-            span: cells[5],
-            bearing: cells[6],
-            strength: cells[7],
-            bonded: cells[8],
-            dead: cells[9],
-            imposed: cells[10],
-            floorload: cells[11],
-            building: cells[12],
-            storeys: cells[13],
-            held,
-            distance,
+            held: cells[4],
+            distance: cells[5],
+            support: cells[6],
+            span: cells[7],
+            bearing: cells[8],
+            strength: cells[9],
+            bonded: cells[10],
+            dead: cells[11],
+            imposed: cells[12],
+            floorload: cells[13],
+            building: cells[14],
+            storeys: cells[15],
         }
     }
 }
@@ -62,6 +61,7 @@ pub mod raw {
     use super::{Cells, CheckResult};
 
     extern "C" {
+        pub fn wallcheck_edition() -> u64;
         pub fn wallcheck_line(line: *const u8, len: usize) -> CheckResult;
         pub fn wallcheck_line_into(
             line: *const u8,
@@ -74,8 +74,13 @@ pub mod raw {
     }
 }
 
-// Each call below is sound: the pointers and lengths are those of slices that live throughout the call,
+// Each call below is sound: the edition takes nothing, the pointers and lengths are those of slices that live throughout the call,
 // and a shared and a mutable slice do not overlap.
+
+/// The edition of the rules.
+pub fn edition() -> u64 {
+    unsafe { raw::wallcheck_edition() }
+}
 
 pub fn check_line(line: &[u8]) -> CheckResult {
     unsafe { raw::wallcheck_line(line.as_ptr(), line.len()) }

@@ -36,16 +36,8 @@ fn row_of(line: &[u8]) -> Option<(Cells, Row)> {
         .strip_prefix("S ")?
         .split(' ');
     let numbers: Vec<f64> = words.map(|word| word.parse().ok()).collect::<Option<_>>()?;
-    if numbers.len() != 16 {
-        return None;
-    }
-    let cells = std::array::from_fn(|place| numbers[if place < 4 { place } else { place + 2 }]);
-    let row = Row {
-        cells,
-        held: numbers[4] as u64,
-        distance: numbers[5],
-    };
-    Some((Cells::new(row.cells, row.held, row.distance), row))
+    let row: Row = numbers.try_into().ok()?;
+    Some((row.into(), row))
 }
 
 /// Whether the three agree on every line and row, in the result and in the bytes of a lent buffer.

@@ -5,10 +5,13 @@
 
 use std::process::exit;
 use std::ptr::{null, null_mut};
-use wallcheck::{check_line, check_line_into, check_row, check_row_into, raw, Cells, CheckResult};
+use wallcheck::{
+    check_line, check_line_into, check_row, check_row_into, edition, raw, Cells, CheckResult,
+};
 
 const LINES: &str = include_str!("../../../cases.txt");
 const ROWS: &str = include_str!("../../../rows.txt");
+const EDITION: u64 = 100;
 const OUT_LENGTHS: [usize; 4] = [0, 63, 64, 100];
 const FILL: u8 = 0xA5;
 
@@ -94,19 +97,14 @@ fn cases(file: &'static str) -> impl Iterator<Item = (&'static str, CheckResult)
         .map(|(case, numbers)| (case, result_of(numbers)))
 }
 
-/// The row of a line of the form: none for a cellar wall, and for c with two sides, which a row cannot hold.
-fn row_of(line: &str) -> Option<Cells> {
-    let numbers: Vec<f64> = line
-        .strip_prefix("S ")?
+/// The row of 16 numbers with a space between.
+fn cells_of(numbers: &str) -> Cells {
+    let cells: Vec<f64> = numbers
         .split(' ')
-        .map(|n| n.parse().expect("a number"))
+        .map(|n| n.parse().expect("a cell"))
         .collect();
-    let cells = [&numbers[..4], &numbers[6..]]
-        .concat()
-        .try_into()
-        .expect("14 cells");
-    (numbers[4] != 2.0 || numbers[5] == 0.0)
-        .then(|| Cells::new(cells, numbers[4] as u64, numbers[5]))
+    let cells: [f64; 16] = cells.try_into().expect("16 cells");
+    cells.into()
 }
 
 fn run_row(tally: &mut Tally, row: &str, cells: Cells, expected: CheckResult) {
@@ -121,23 +119,10 @@ fn run_line_case(tally: &mut Tally, line: &str, expected: CheckResult) {
     tally.count_into("line into a buffer", line, expected, |out| {
         check_line_into(line.as_bytes(), out)
     });
-    if expected.refusal != 1 {
-        if let Some(cells) = row_of(line) {
-            run_row(tally, line, cells, expected);
-        }
+    match line.strip_prefix("S ") {
+        Some(numbers) if expected.refusal != 1 => run_row(tally, line, cells_of(numbers), expected),
+        _ => (),
     }
-}
-
-fn run_row_case(tally: &mut Tally, row: &str, expected: CheckResult) {
-    let words: Vec<&str> = row.split(' ').collect();
-    let cell = |place: usize| words[place].parse().expect("a cell");
-    let held = words[14].parse().expect("held");
-    run_row(
-        tally,
-        row,
-        Cells::new(std::array::from_fn(cell), held, cell(15)),
-        expected,
-    );
 }
 
 /// A null pointer with length 0, as line and as buffer, which the header allows.
@@ -163,9 +148,10 @@ fn main() {
         run_line_case(&mut tally, line, expected);
     }
     for (row, expected) in cases(ROWS) {
-        run_row_case(&mut tally, row, expected);
+        run_row(&mut tally, row, cells_of(row), expected);
     }
     run_null(&mut tally);
+    tally.count("edition", "", edition() == EDITION);
     if tally.different > 0 {
         eprintln!("rust: {} cases differ", tally.different);
         exit(1);
