@@ -24,7 +24,7 @@ lineResult line = readingResult check (readLine line)
 abbrev pub rowResult : Row → CheckResult
 rowResult row = check (Storey (rowWall row))
 
--- The cells of a row, held and c among them: those of the record with the same numbers. Held and c are as on a line, by their ranges.
+-- The cells of a row, held and c among them: the result of the record with the same numbers. Held and c are as on a line, by their ranges.
 abbrev pub cellsResult : Cells → CheckResult
 cellsResult cells = check (Storey (cellsWall cells))
 
@@ -38,7 +38,8 @@ pub record Lent : Type 0 where
   pub buffer : List ℕ
 
 -- 20: "output buffer under 64 bytes", "20 before all others wherever a buffer is lent". "Refusal 20 writes nothing and is handed back with four zeros."
--- "A result, refused or not, is written to a lent buffer ..; bytes after that are untouched."
+-- "A result, refused or not, is written to a lent buffer ..; bytes after that are untouched." `overwrite` would leave the buffer alone where a text does
+-- not fit; that every text fits is claimed in Demands.
 unfoldable pub lent : List ℕ → CheckResult → Lent
 lent buffer result =
     cond (ltb (length buffer) 64)
