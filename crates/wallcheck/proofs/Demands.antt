@@ -27,8 +27,7 @@ use Rattle.worksheet.specs.Cell.{cellBound}
 use Rattle.worksheet.specs.Entry.{Entry, entriesWall, TurnIntoTheirRecord}
 use Rattle.worksheet.specs.Row.{entries}
 use Rattle.worksheet.specs.Cells.{cellEntries}
-use Rattle.worksheet.proofs.Entries.{row-is-its-numbers}
-use Rattle.worksheet.proofs.RowOfCells.{cells-are-their-numbers}
+use Rattle.worksheet.proofs.Entries.{row-is-its-numbers, cells-are-their-numbers}
 use Rattle.buffer.proofs.Overwrite.{overwrite-start}
 use Rattle.report.specs.Text.{resultText}
 use Rattle.report.specs.Reading.{readResult}

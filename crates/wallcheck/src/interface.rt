@@ -3,7 +3,6 @@ ghost use mathlib.Core.Path.{_≡_};
 ghost use Rattle.wallcheck.specs.Entry.{lineResult, cellsResult, lent, edition};
 use basis::CheckResult;
 use worksheet::cells::Cells;
-use worksheet::cells::CellsRow;
 
 const EDITION: u64 = 100;
 
@@ -13,16 +12,6 @@ pub extern "C" fn wallcheck_edition() -> u64
     ensures { λ number. ⌜ number ≡ edition ⌝ }
 {
     EDITION
-}
-
-// The result of the cells of a row, held and c among them.
-fn check_cells(cells: Cells) -> CheckResult
-    ensures { λ result. ⌜ result ≡ cellsResult cells ⌝ }
-{
-    match cells.row() {
-        CellsRow::Held(row) => crate::check_row(row),
-        CellsRow::NoHolding => CheckResult::refused(2),
-    }
 }
 
 #[no_mangle]
@@ -43,12 +32,12 @@ pub extern "C" fn wallcheck_line_into(line: &[u8], out: &mut [u8]) -> CheckResul
 pub extern "C" fn wallcheck_row(cells: Cells) -> CheckResult
     ensures { λ result. ⌜ result ≡ cellsResult cells ⌝ }
 {
-    check_cells(cells)
+    cells.wall().check()
 }
 
 #[no_mangle]
 pub extern "C" fn wallcheck_row_into(cells: Cells, out: &mut [u8]) -> CheckResult
     ensures { λ handed. ⌜ record { result = handed; buffer = now (out .exit) } ≡ lent (now (out .entry)) (cellsResult cells) ⌝ }
 {
-    crate::lend(check_cells(cells), out)
+    crate::lend(cells.wall().check(), out)
 }

@@ -8,6 +8,7 @@ use Rattle.storey.specs.Record.{numbers, storeyOf}
 use Rattle.worksheet.specs.Cell.{cellBound}
 use Rattle.worksheet.specs.Entry.{Entry, fixed, cell, entryNumber, entriesWall, Each, EntryIs, TurnIntoTheirRecord, NoneIfNotWhole, OthersLeaveNone}
 use Rattle.worksheet.specs.Row.{entries, RowIsItsNumbers, OtherCellsLeaveNone}
+use Rattle.worksheet.specs.Cells.{cellEntries, CellsAreTheirNumbers, CellsLeaveNone}
 use Rattle.worksheet.proofs.Number.{cell-is-its-value, other-cells-are-none}
 
 entry-is : (e : Entry) (n : ℕ) → n < cellBound → (entryNumber e ≡ n) ↔ EntryIs e n
@@ -44,3 +45,9 @@ row-is-its-numbers r = entries-are-numbers (entries r) refl
 
 pub other-cells-leave-none : OtherCellsLeaveNone
 other-cells-leave-none r = others-leave-none (entries r) refl
+
+pub cells-are-their-numbers : CellsAreTheirNumbers
+cells-are-their-numbers x = entries-are-numbers (cellEntries x) refl
+
+pub cells-leave-none : CellsLeaveNone
+cells-leave-none x = others-leave-none (cellEntries x) refl

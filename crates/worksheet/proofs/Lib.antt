@@ -3,4 +3,3 @@ pub mod Number
 pub mod Zeros
 pub mod Pattern
 pub mod Entries
-pub mod RowOfCells

@@ -1,10 +1,8 @@
 // A worksheet row as a spreadsheet and C have it: a cell for each number, held and c among them.
-use crate::Holding;
-use crate::Row;
 use crate::cell;
 use storey::StoreyWall;
 ghost use mathlib.Core.Path.{_≡_};
-ghost use Rattle.worksheet.specs.Cells.{cellsRow, rowWith};
+ghost use Rattle.worksheet.specs.Cells.{cellsWall};
 
 // The cells, one for each number of `StoreyWall`, in document 01's order.
 #[repr(C)]
@@ -27,51 +25,29 @@ pub struct Cells {
     pub storeys: f64,
 }
 
-// The row of the cells, or that held and c are no holding.
-pub enum CellsRow {
-    Held(Row),
-    NoHolding,
-}
-
 impl Cells {
-    // The row with these cells and a holding.
-    fn with_holding(self, holding: Holding) -> Row
-        ensures { λ row. ⌜ row ≡ rowWith self holding ⌝ }
+    // The record with the cells' numbers. A cell that is no whole number leaves one in its place that is in no range; held and c are
+    // as on a line, by their ranges.
+    pub fn wall(self) -> StoreyWall
+        ensures { λ wall. ⌜ wall ≡ cellsWall self ⌝ }
     {
-        Row {
-            usage: self.usage,
-            thickness: self.thickness,
-            height: self.height,
-            length: self.length,
-            holding,
-            support: self.support,
-            span: self.span,
-            bearing: self.bearing,
-            strength: self.strength,
-            bonded: self.bonded,
-            dead: self.dead,
-            imposed: self.imposed,
-            floorload: self.floorload,
-            building: self.building,
-            storeys: self.storeys,
+        StoreyWall {
+            usage: cell::number(self.usage),
+            thickness: cell::number(self.thickness),
+            height: cell::number(self.height),
+            length: cell::number(self.length),
+            held: cell::number(self.held),
+            distance: cell::number(self.distance),
+            support: cell::number(self.support),
+            span: cell::number(self.span),
+            bearing: cell::number(self.bearing),
+            strength: cell::number(self.strength),
+            bonded: cell::number(self.bonded),
+            dead: cell::number(self.dead),
+            imposed: cell::number(self.imposed),
+            floorload: cell::number(self.floorload),
+            building: cell::number(self.building),
+            storeys: cell::number(self.storeys),
         }
-    }
-
-    // 2, 3 and 4 give the holding, 2 only where c is 0, as on a line.
-    pub fn row(self) -> CellsRow
-        ensures { λ row. ⌜ row ≡ cellsRow self ⌝ }
-    {
-        let distance = self.distance;
-        let held = cell::number(self.held);
-        if (held == StoreyWall::TWO_SIDES) & (cell::number(distance) == 0) {
-            return CellsRow::Held(self.with_holding(Holding::TwoSides));
-        }
-        if held == StoreyWall::THREE_SIDES {
-            return CellsRow::Held(self.with_holding(Holding::ThreeSides(distance)));
-        }
-        if held == StoreyWall::FOUR_SIDES {
-            return CellsRow::Held(self.with_holding(Holding::FourSides(distance)));
-        }
-        CellsRow::NoHolding
     }
 }
