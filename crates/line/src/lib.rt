@@ -61,6 +61,7 @@ fn storey_wall(numbers: &[u64; StoreyWall::NUMBERS]) -> StoreyWall
         floorload: numbers[13],
         building: numbers[14],
         storeys: numbers[15],
+        otherspan: numbers[16],
     }
 }
 

@@ -16,7 +16,8 @@ use Rattle.basis.proofs.Refusal.{EachImplies, done, _then_, none-kept}
 use Rattle.storey.specs.declared.StoreyWall.{StoreyWall}
 use Rattle.storey.specs.Range.{inRange}
 use Rattle.storey.specs.BucklingLength.{bearingSuffices, factor, twoSides, threeSides, fourSides, lengthOf, exactLength, bucklingLength}
-use Rattle.storey.specs.Resistance.{atMidHeight, supportFactor, atSupport, reductionFifths, reduction, unreduced, exactResistance, resistance}
+use Rattle.storey.specs.Span.{governingSpan, supportSpan}
+use Rattle.storey.specs.Resistance.{atMidHeight, supportFactor, supportFactorOf, atSupport, reductionFifths, reduction, unreduced, exactResistance, resistance}
 use Rattle.storey.specs.Load.{load}
 use Rattle.storey.specs.Limits.{
   limits,
@@ -38,7 +39,8 @@ use Rattle.storey.proofs.Range.{in-ranges, distance-bounds}
 use Rattle.storey.proofs.Limits.{no-lower-refl, above-falls}
 use Rattle.storey.proofs.Load.{load-grows}
 use Rattle.storey.proofs.BucklingLength.{thickness-factor-most, factor-most, sum-of-squares, held-further, exact-length-den}
-use Rattle.storey.proofs.Resistance.{support-factor-den, mid-height-den, at-support-den, resistance-den}
+use Rattle.storey.proofs.Span.{support-span-den, governing-falls, support-span-falls}
+use Rattle.storey.proofs.Resistance.{factor-den, mid-height-den, at-support-den, resistance-den}
 
 -- Factor: a deeper bearing never raises r
 
@@ -140,13 +142,13 @@ mid-height-grows t a a' F F' E E' deeper stronger shorter =
     (mul-le-mul-right 1 (mul-le-mul-right t (mul-le-mul-left 850000 deeper)))
     (times-mono (whole 11) (times E' E') (whole 11) (times E E) (≼-refl (whole 11)) (times-mono E' E' E E shorter shorter)))
 
-support-factor-grows : (support L L' : ℕ) → L' ≤ L → supportFactor support L ≼ supportFactor support L'
+support-factor-grows : (support : ℕ) (L L' : Fraction) → 0 < L .den → L' ≼ L → supportFactor support L ≼ supportFactor support L'
 unfolding supportFactor
-support-factor-grows support L L' shorter =
+support-factor-grows support L L' positive shorter =
     cond-same (λ (f g : Fraction). f ≼ g) (eqb support 2)
-    (λ _. smaller-mono (whole 5400) (minus (whole 9600) (whole L)) (whole 5400) (minus (whole 9600) (whole L'))
-    (omega arith) (minus-den (whole 9600) (whole L) (omega arith) (omega arith)) (≼-refl (whole 5400))
-    (minus-mono (whole 9600) (whole L) (whole 9600) (whole L') (≼-refl (whole 9600)) (omega arith)))
+    (λ _. smaller-mono (whole 5400) (minus (whole 9600) L) (whole 5400) (minus (whole 9600) L')
+    (omega arith) (minus-den (whole 9600) L (omega arith) positive) (≼-refl (whole 5400))
+    (minus-mono (whole 9600) L (whole 9600) L' (≼-refl (whole 9600)) shorter))
     (λ _. ≼-refl (cond (eqb support 3) (whole 1998) (whole 5400)))
 
 support-grows : (a a' F F' : ℕ) (m m' : Fraction) → m ≼ m' → a ≤ a' → F ≤ F' → atSupport a F m ≼ atSupport a' F' m'
@@ -194,21 +196,26 @@ module _ (first second : StoreyWall) (pair : NoWorse first second) (passed : inR
   length-kept =
       ceil-mono (exactLength changed) (exactLength first) (exact-length-den changed changed-in-range) (exact-length-den first passed) exact-length-falls
 
+  factor-grows : supportFactorOf first ≼ supportFactorOf changed
+  factor-grows =
+      let M = first .otherspan in
+      support-factor-grows (first .support) (supportSpan (first .span) M) (supportSpan (second .span) M) (support-span-den (first .span) M)
+      (support-span-falls (second .span) (first .span) M (pair .span) (pair .spans))
+
   changed-resistance-grows : resistance first ≤ resistance changed
   unfolding resistance exactResistance reductionFifths
   changed-resistance-grows =
       let E = whole (bucklingLength first) in
       let E' = whole (bucklingLength changed) in
-      let m = supportFactor (first .support) (first .span) in
-      let m' = supportFactor (first .support) (second .span) in
+      let m = supportFactorOf first in
+      let m' = supportFactorOf changed in
       let shorter : E' ≼ E = mul-le-mul-right 1 length-kept in
       floor-mono (exactResistance first E) (exactResistance changed E')
       (resistance-den first passed E (omega arith)) (resistance-den changed changed-in-range E' (omega arith))
       (times-mono (reduction first) (unreduced (first .support) (first .thickness) (first .bearing) (first .strength) m E)
       (reduction first) (unreduced (first .support) (first .thickness) (second .bearing) (second .strength) m' E') (≼-refl (reduction first))
       (unreduced-grows (first .support) (first .thickness) (first .bearing) (second .bearing) (first .strength) (second .strength) m m' E E'
-      (omega (arith, in-ranges first passed)) (support-factor-den (first .support) (first .span)) (omega arith)
-      (support-factor-grows (first .support) (first .span) (second .span) (pair .span)) (pair .bearing) (pair .strength) shorter))
+      (omega (arith, in-ranges first passed)) (factor-den first) (omega arith) factor-grows (pair .bearing) (pair .strength) shorter))
 
   -- Each limit that the first keeps, the second keeps.
 
@@ -231,8 +238,10 @@ module _ (first second : StoreyWall) (pair : NoWorse first second) (passed : inR
   span-kept : Implies (spanTooLong changed) (spanTooLong first)
   unfolding spanTooLong
   span-kept =
-      implies-and (ltb 6000 (second .span)) (not (eqb (first .support) 4)) (ltb 6000 (first .span)) (not (eqb (first .support) 4))
-      (above-grows 6000 (second .span) (first .span) (pair .span)) (λ is. is)
+      let governing = governingSpan (first .span) (first .otherspan) in
+      let governing' = governingSpan (second .span) (first .otherspan) in
+      implies-and (ltb 6000 governing') (not (eqb (first .support) 4)) (ltb 6000 governing) (not (eqb (first .support) 4))
+      (above-grows 6000 governing' governing (governing-falls (second .span) (first .span) (first .otherspan) (pair .span))) (λ is. is)
 
   bearing-kept : Implies (bearingTooShallow changed) (bearingTooShallow first)
   unfolding bearingTooShallow

@@ -1,5 +1,6 @@
 -- Laws of the definitions, one file for each file of specs/.
 pub mod Range
+pub mod Span
 pub mod BucklingLength
 pub mod Resistance
 pub mod Load

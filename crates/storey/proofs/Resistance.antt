@@ -3,7 +3,7 @@ use Prim.Native.Nat.{ℕ, _-_, _*_, _/_, _≤_, _<_, min}
 use mathlib.Core.Bool.{Bool, true, false, _||_}
 use mathlib.Core.Path.{_≡_, _∙_, refl, sym, ap}
 use native.Mathlib.Omega.{arith}
-use native.Mathlib.Nat.{mul-le-mul, mul-le-mul-right, mul-one, sub-eq-zero-of-le, zero-div, mul-zero}
+use native.Mathlib.Nat.{mul-le-mul, mul-le-mul-right, le-of-mul-le-mul-right, mul-one, mul-sub, sub-eq-zero-of-le, zero-div, mul-zero}
 use lib.Dec.{eqb, ltb}
 use Rattle.basis.specs.Fraction.{Fraction, _÷_, whole, _≼_, _≈_, times, minus, smaller, floor}
 use borrow.Author.Tests.{ltb-true, ltb-false}
@@ -26,13 +26,16 @@ use Rattle.basis.proofs.Fraction.{
 use Rattle.storey.specs.declared.StoreyWall.{StoreyWall}
 use Rattle.storey.specs.Range.{inRange}
 use Rattle.storey.specs.BucklingLength.{bucklingLength}
+use Rattle.storey.specs.Span.{supportSpan}
 use Rattle.storey.proofs.Range.{in-ranges}
+use Rattle.storey.proofs.Span.{support-span-den}
 use Rattle.storey.specs.Resistance.{
   atMidHeight,
   supportFactor,
   atSupport,
   reductionFifths,
   reduction,
+  supportFactorOf,
   unreduced,
   exactResistance,
   resistance,
@@ -67,7 +70,7 @@ module _ (fifths m a F : ℕ) (inputs : SupportInputs fifths m a F) where
   pub support-part-most : fifths * (17 * F * a) ≤ 425000000
   support-part-most = mul-le-mul {n₂ = 5} {m₂ = 85000000} (inputs .fifths-most) strength-bearing-most
 
-  pub support-product-most : fifths * (17 * F * a) * m ≤ 2295000000000
+  pub support-product-most : fifths * (17 * F * a) * m ≤ 45900000000000
   support-product-most = mul-le-mul support-part-most (inputs .factor-most)
 
 -- The code's quotients
@@ -88,19 +91,30 @@ mid-height-none fifths t a F E below =
     sym (rw (sub-eq-zero-of-le below, mul-zero (fifths * (17 * F)), zero-div (5 * (3000000 * t))) refl)
     ∙ mid-height-quotient fifths t a F E
 
-pub under-floor : (L m : ℕ) → m ≡ min 5400 (9600 - L) → SupportFactor m (smaller (whole 5400) (minus (whole 9600) (whole L)))
+-- What a span l, in twentieths, leaves of 9600 is the smaller of both exactly where l is at least 84000: 9600 − 4200 is 5400.
+pub under-floor : (l m : ℕ) (L : Fraction) → 0 < L .den → (l ÷ 20) ≈ L → m ≡ min 108000 (192000 - l) →
+    SupportFactor m (smaller (whole 5400) (minus (whole 9600) L))
 unfolding minus
-under-floor L m value =
+under-floor l m L positive same is =
     record {
-      value = smaller-cases (λ f. whole m ≈ f) (whole 5400) (minus (whole 9600) (whole L)) (λ below. omega arith) (λ above. omega arith);
+      value =
+          smaller-cases (λ f. (m ÷ 20) ≈ f) (whole 5400) (minus (whole 9600) L)
+          (λ below.
+          let short : l ≤ 84000 = le-of-mul-le-mul-right {k = L .den} (omega arith) positive in
+          omega arith)
+          (λ above.
+          let long : 84000 ≤ l = le-of-mul-le-mul-right {k = L .den} (omega arith) positive in
+          let left : m ≡ 192000 - l = omega arith in
+          let product : L .den * m ≡ L .den * 192000 - L .den * l = rw left (mul-sub (L .den) 192000 l) in
+          omega (arith, product));
       most = omega arith;
     }
 
-pub support-factor-den : (support L : ℕ) → 0 < supportFactor support L .den
+pub support-factor-den : (support : ℕ) (L : Fraction) → 0 < L .den → 0 < supportFactor support L .den
 unfolding supportFactor
-support-factor-den support L =
+support-factor-den support L positive =
     cond-cases (λ (f : Fraction). 0 < f .den) (eqb support 2)
-    (λ _. smaller-den (whole 5400) (minus (whole 9600) (whole L)) (omega arith) (minus-den (whole 9600) (whole L) (omega arith) (omega arith)))
+    (λ _. smaller-den (whole 5400) (minus (whole 9600) L) (omega arith) (minus-den (whole 9600) L (omega arith) positive))
     (λ _. cond-cases (λ (f : Fraction). 0 < f .den) (eqb support 3) (λ _. omega arith) (λ _. omega arith))
 
 pub at-support-den : (a F : ℕ) (m : Fraction) → 0 < m .den → 0 < atSupport a F m .den
@@ -113,32 +127,33 @@ mid-height-den t a F E least positive =
     times-den ((17 * F) ÷ (3000000 * t)) (minus (whole (850000 * a * t)) (times (whole 11) (times E E))) (omega arith)
     (minus-den (whole (850000 * a * t)) (times (whole 11) (times E E)) (omega arith) (times-den (whole 11) (times E E) (omega arith) (times-den E E positive positive)))
 
--- At the support, in fifths, with m as a whole number.
-pub support-quotient : (fifths m a F : ℕ) → fifths * (17 * F * a) * m / 90000 ≡ floor (times (fifths ÷ 5) (atSupport a F (whole m)))
+-- m of a record.
+pub factor-den : (w : StoreyWall) → 0 < supportFactorOf w .den
+factor-den w = support-factor-den (w .support) (supportSpan (w .span) (w .otherspan)) (support-span-den (w .span) (w .otherspan))
+
+-- At the support, in fifths, with m in twentieths.
+pub support-quotient : (fifths m a F : ℕ) → fifths * (17 * F * a) * m / 1800000 ≡ floor (times (fifths ÷ 5) (atSupport a F (m ÷ 20)))
 unfolding floor times atSupport
-support-quotient fifths m a F = ap (λ (n : ℕ). n / 90000) (omega arith)
+support-quotient fifths m a F = ap (λ (n : ℕ). n / 1800000) (omega arith)
 
 -- The same with m as the fraction of the definition, which has the same value.
-support-same : (fifths m a F : ℕ) (f : Fraction) → 0 < f .den → whole m ≈ f →
-    floor (times (fifths ÷ 5) (atSupport a F (whole m))) ≡ floor (times (fifths ÷ 5) (atSupport a F f))
+support-same : (fifths m a F : ℕ) (f : Fraction) → 0 < f .den → (m ÷ 20) ≈ f →
+    floor (times (fifths ÷ 5) (atSupport a F (m ÷ 20))) ≡ floor (times (fifths ÷ 5) (atSupport a F f))
 unfolding atSupport
 support-same fifths m a F f positive value =
     let part : Fraction = (17 * F * a) ÷ 18000 in
-    floor-equal (times (fifths ÷ 5) (times part (whole m))) (times (fifths ÷ 5) (times part f))
-    (times-den (fifths ÷ 5) (times part (whole m)) (omega arith) (times-den part (whole m) (omega arith) (omega arith)))
+    floor-equal (times (fifths ÷ 5) (times part (m ÷ 20))) (times (fifths ÷ 5) (times part f))
+    (times-den (fifths ÷ 5) (times part (m ÷ 20)) (omega arith) (times-den part (m ÷ 20) (omega arith) (omega arith)))
     (times-den (fifths ÷ 5) (times part f) (omega arith) (times-den part f (omega arith) positive))
-    (times-same (fifths ÷ 5) (times part (whole m)) (fifths ÷ 5) (times part f) refl (times-same part (whole m) part f refl value))
+    (times-same (fifths ÷ 5) (times part (m ÷ 20)) (fifths ÷ 5) (times part f) refl (times-same part (m ÷ 20) part f refl value))
 
 -- The reported resistance from the two rounded parts of the code: the one at mid-height for support 1, else the smaller of both.
 module _ (w : StoreyWall) (least : 1 ≤ w .thickness) where
   abbrev middle : Fraction
   middle = atMidHeight (w .thickness) (w .bearing) (w .strength) (whole (bucklingLength w))
 
-  abbrev factor : Fraction
-  factor = supportFactor (w .support) (w .span)
-
   abbrev end : Fraction
-  end = atSupport (w .bearing) (w .strength) factor
+  end = atSupport (w .bearing) (w .strength) (supportFactorOf w)
 
   middle-den : 0 < middle .den
   middle-den = mid-height-den (w .thickness) (w .bearing) (w .strength) (whole (bucklingLength w)) least (omega arith)
@@ -152,12 +167,12 @@ module _ (w : StoreyWall) (least : 1 ≤ w .thickness) where
   smaller-of-both further =
       rw further
       (sym (floor-times-smaller (reduction w) middle end (omega arith) middle-den
-      (at-support-den (w .bearing) (w .strength) factor (support-factor-den (w .support) (w .span)))))
+      (at-support-den (w .bearing) (w .strength) (supportFactorOf w) (factor-den w))))
 
-  module _ (m middle-is end-is : ℕ) (value : whole m ≈ factor) (rounded-middle : middle-is ≡ floor (times (reduction w) middle))
-      (rounded-end : end-is ≡ floor (times (reduction w) (atSupport (w .bearing) (w .strength) (whole m)))) where
+  module _ (m middle-is end-is : ℕ) (value : (m ÷ 20) ≈ supportFactorOf w) (rounded-middle : middle-is ≡ floor (times (reduction w) middle))
+      (rounded-end : end-is ≡ floor (times (reduction w) (atSupport (w .bearing) (w .strength) (m ÷ 20)))) where
     end-rounded : end-is ≡ floor (times (reduction w) end)
-    end-rounded = rounded-end ∙ support-same (reductionFifths w) m (w .bearing) (w .strength) factor (support-factor-den (w .support) (w .span)) value
+    end-rounded = rounded-end ∙ support-same (reductionFifths w) m (w .bearing) (w .strength) (supportFactorOf w) (factor-den w) value
 
     pub resistance-middle : (eqb (w .support) 1 || ltb middle-is end-is) ≡ true → middle-is ≡ resistance w
     resistance-middle chosen =
@@ -213,23 +228,20 @@ module _ (support t a F : ℕ) (m E : Fraction) (least : 1 ≤ t) (positive-m : 
       (λ _. ≼-trans (smaller middle end) middle (whole 25000000) (mid-height-den t a F E least positive) (smaller-left middle end) most)
 
 module _ (w : StoreyWall) (passed : inRange w ≡ true) where
-  abbrev m : Fraction
-  m = supportFactor (w .support) (w .span)
-
   pub resistance-den : (E : Fraction) → 0 < E .den → 0 < exactResistance w E .den
   unfolding exactResistance
   resistance-den E positive =
-      times-den (reduction w) (unreduced (w .support) (w .thickness) (w .bearing) (w .strength) m E) (omega arith)
-      (unreduced-den (w .support) (w .thickness) (w .bearing) (w .strength) m E (omega (arith, in-ranges w passed))
-      (support-factor-den (w .support) (w .span)) positive)
+      times-den (reduction w) (unreduced (w .support) (w .thickness) (w .bearing) (w .strength) (supportFactorOf w) E) (omega arith)
+      (unreduced-den (w .support) (w .thickness) (w .bearing) (w .strength) (supportFactorOf w) E (omega (arith, in-ranges w passed))
+      (factor-den w) positive)
 
   exact-most : (E : Fraction) → 0 < E .den → exactResistance w E ≼ whole 25000000
   unfolding exactResistance times
   exact-most E positive =
       let all = in-ranges w passed in
-      times-mono (reduction w) (unreduced (w .support) (w .thickness) (w .bearing) (w .strength) m E)
+      times-mono (reduction w) (unreduced (w .support) (w .thickness) (w .bearing) (w .strength) (supportFactorOf w) E)
       (whole 1) (whole 25000000) (omega (arith, fifths-most w))
-      (unreduced-most (w .support) (w .thickness) (w .bearing) (w .strength) m E (omega arith) (support-factor-den (w .support) (w .span)) positive
+      (unreduced-most (w .support) (w .thickness) (w .bearing) (w .strength) (supportFactorOf w) E (omega arith) (factor-den w) positive
       (omega arith) (omega arith))
 
   pub resistance-most : resistance w ≤ 25000000

@@ -4,6 +4,7 @@ use mathlib.Core.Bool.{Bool, false, cond, not, _&&_, _||_}
 use mathlib.Core.List.{List, [], _∷_, _++_}
 use lib.Dec.{leb, ltb, eqb}
 use Rattle.storey.specs.declared.StoreyWall.{StoreyWall}
+use Rattle.storey.specs.Span.{governingSpan}
 use Rattle.storey.specs.BucklingLength.{bucklingLength}
 
 -- 3: "t < 115"
@@ -53,9 +54,9 @@ floorLoadTooGreat w = ltb 5000 (w .floorload) || (ltb 3000 (w .floorload) && not
 unfoldable pub buildingTooHigh : StoreyWall → Bool
 buildingTooHigh w = ltb 20000 (w .building)
 
--- 9: "L > 6000, support not 4"
+-- 9: "L > 6000, support not 4"; document 02, #101: "the shorter of L and M stands for L".
 unfoldable pub spanTooLong : StoreyWall → Bool
-spanTooLong w = ltb 6000 (w .span) && not (eqb (w .support) 4)
+spanTooLong w = ltb 6000 (governingSpan (w .span) (w .otherspan)) && not (eqb (w .support) 4)
 
 -- 10: "a ≤ 100, or 2a < t (for t = 365: 20a < 9t)"
 unfoldable pub bearingTooShallow : StoreyWall → Bool

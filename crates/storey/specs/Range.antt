@@ -1,4 +1,4 @@
--- Document 01, "The two lines": "`S` and 16 numbers, with range".
+-- Document 01, "The two lines": "`S` and 16 numbers, with range". Document 02, #101: "a seventeenth number, M".
 use mathlib.Core.Bool.{Bool, cond}
 use mathlib.Core.List.{List, [], _∷_}
 use lib.Dec.{eqb}
@@ -26,6 +26,8 @@ ranges w =
     ∷ w .floorload from 0 to 100000
     ∷ w .building from 1 to 200000
     ∷ w .storeys from 1 to 20
+    -- #101: "M, the other span, 0 for a one-way slab, else 1..20000"
+    ∷ w .otherspan from 0 to 20000
     ∷ []
 
 unfoldable pub inRange : StoreyWall → Bool

@@ -1,4 +1,5 @@
--- "A record is the numbers of one line": those of a storey record in document 01's order, and the record of such a list.
+-- "A record is the numbers of one line": those of a storey record in document 01's order, with M of document 02, #101, as "a seventeenth number",
+-- and the record of such a list.
 -- Whatever reads, compares or changes a record by its numbers stands on this page.
 use Prim.Native.Nat.{ℕ}
 use mathlib.Core.List.{List, [], _∷_}
@@ -8,11 +9,12 @@ use Rattle.storey.specs.declared.StoreyWall.{StoreyWall}
 abbrev pub numbers : StoreyWall → List ℕ
 numbers w =
     w .usage ∷ w .thickness ∷ w .height ∷ w .length ∷ w .held ∷ w .distance ∷ w .support ∷ w .span
-    ∷ w .bearing ∷ w .strength ∷ w .bonded ∷ w .dead ∷ w .imposed ∷ w .floorload ∷ w .building ∷ w .storeys ∷ []
+    ∷ w .bearing ∷ w .strength ∷ w .bonded ∷ w .dead ∷ w .imposed ∷ w .floorload ∷ w .building ∷ w .storeys
+    ∷ w .otherspan ∷ []
 
 -- How many they are.
 abbrev pub count : ℕ
-count = 16
+count = 17
 
 -- The record with these numbers; 0 stands for one that the list has not.
 abbrev pub storeyOf : List ℕ → StoreyWall
@@ -34,6 +36,7 @@ storeyOf ns =
       floorload = getD ns 13 0;
       building = getD ns 14 0;
       storeys = getD ns 15 0;
+      otherspan = getD ns 16 0;
     }
 
 -- The record with another number in one place; places count from 0.
@@ -80,3 +83,6 @@ withFloorLoad = withNumber 13
 
 abbrev pub withBuilding : StoreyWall → (H : ℕ) → StoreyWall
 withBuilding = withNumber 14
+
+abbrev pub withOtherSpan : StoreyWall → (M : ℕ) → StoreyWall
+withOtherSpan = withNumber 16

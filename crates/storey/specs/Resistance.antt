@@ -7,6 +7,7 @@ use lib.Dec.{ltb, eqb}
 use Rattle.basis.specs.Fraction.{Fraction, _÷_, whole, _≈_, times, minus, smaller, floor}
 use Rattle.storey.specs.declared.StoreyWall.{StoreyWall}
 use Rattle.storey.specs.Range.{inRange}
+use Rattle.storey.specs.Span.{supportSpan}
 use Rattle.storey.specs.BucklingLength.{bucklingLength}
 
 -- At mid-height: "17F(850000at − 11E²)/(3000000t)"; minus stops at 0, "not below 0".
@@ -14,10 +15,11 @@ unfoldable pub atMidHeight : (t a F : ℕ) (E : Fraction) → Fraction
 atMidHeight t a F E =
     times ((17 * F) ÷ (3000000 * t)) (minus (whole (850000 * a * t)) (times (whole 11) (times E E)))
 
--- "m is the smaller of 5400 and 9600 − L for support 2, 1998 for support 3, 5400 for support 4"
-unfoldable pub supportFactor : (support L : ℕ) → Fraction
+-- "m is the smaller of 5400 and 9600 − L for support 2, 1998 for support 3, 5400 for support 4". The span is a fraction: document 02, #101, puts
+-- "0.85 times that shorter span, unrounded" in the place of L.
+unfoldable pub supportFactor : (support : ℕ) (L : Fraction) → Fraction
 supportFactor support L =
-    cond (eqb support 2) (smaller (whole 5400) (minus (whole 9600) (whole L))) (cond (eqb support 3) (whole 1998) (whole 5400))
+    cond (eqb support 2) (smaller (whole 5400) (minus (whole 9600) L)) (cond (eqb support 3) (whole 1998) (whole 5400))
 
 -- At the support: "17 × F × a × m/18000"
 unfoldable pub atSupport : (a F : ℕ) (m : Fraction) → Fraction
@@ -34,10 +36,13 @@ reductionFifths w = cond (ltb (w .length * w .thickness) 100000 || eqb (w .bonde
 abbrev pub reduction : StoreyWall → Fraction
 reduction w = reductionFifths w ÷ 5
 
+-- m of a record: the span of #101 enters it.
+abbrev pub supportFactorOf : StoreyWall → Fraction
+supportFactorOf w = supportFactor (w .support) (supportSpan (w .span) (w .otherspan))
+
 unfoldable pub exactResistance : StoreyWall → (E : Fraction) → Fraction
 exactResistance w E =
-    times (reduction w)
-    (unreduced (w .support) (w .thickness) (w .bearing) (w .strength) (supportFactor (w .support) (w .span)) E)
+    times (reduction w) (unreduced (w .support) (w .thickness) (w .bearing) (w .strength) (supportFactorOf w) E)
 
 -- "then rounded down once"
 unfoldable pub resistance : StoreyWall → ℕ
@@ -54,13 +59,14 @@ pub record MidHeightInputs (fifths t a F E : ℕ) : Type 0 where
 
 pub record SupportInputs (fifths m a F : ℕ) : Type 0 where
   pub fifths-most : fifths ≤ 5
-  pub factor-most : m ≤ 5400
+  pub factor-most : m ≤ 108000
   pub bearing-most : a ≤ 1000
   pub strength-most : F ≤ 5000
 
+-- m in twentieths, since 0.85 of a span is 17 twentieths of it.
 pub record SupportFactor (m : ℕ) (f : Fraction) : Type 0 where
-  pub value : whole m ≈ f
-  pub most : m ≤ 5400
+  pub value : (m ÷ 20) ≈ f
+  pub most : m ≤ 108000
 
 pub record ResistanceInputs (w : StoreyWall) (E fifths : ℕ) : Type 0 where
   pub in-range : inRange w ≡ true

@@ -1,9 +1,10 @@
-// Resistance: document 01, "Storey wall".
+// Resistance: document 01, "Storey wall", with the span of document 02, #101.
 ghost use mathlib.Core.Bool.{true};
 ghost use mathlib.Core.Path.{_≡_};
 ghost use Prim.Native.Nat.{_-_};
 ghost use Rattle.basis.specs.Fraction.{_÷_, whole, floor, times};
 ghost use Rattle.storey.specs.Range.{inRange};
+ghost use Rattle.storey.specs.Span.{supportSpan, SpanInputs};
 ghost use Rattle.storey.specs.Resistance.{atMidHeight, supportFactor, atSupport, reductionFifths, resistance, MidHeightInputs, SupportInputs, SupportFactor, ResistanceInputs};
 use crate::StoreyWall;
 
@@ -13,14 +14,15 @@ impl StoreyWall {
     const UNDER_FLOOR: u64 = 2;
 
     const UNDER_ROOF: u64 = 3;
-    // m: the smaller of FULL_SUPPORT and SPAN_SUPPORT - L under a floor, ROOF_SUPPORT under a roof, else FULL_SUPPORT.
-    const FULL_SUPPORT: u64 = 5400;
+    // m: the smaller of FULL_SUPPORT and SPAN_SUPPORT - L under a floor, ROOF_SUPPORT under a roof, else FULL_SUPPORT. In
+    // twentieths, as the span is that enters it.
+    const FULL_SUPPORT: u64 = 5400 * StoreyWall::TWENTIETHS;
 
-    const SPAN_SUPPORT: u64 = 9600;
+    const SPAN_SUPPORT: u64 = 9600 * StoreyWall::TWENTIETHS;
 
-    const ROOF_SUPPORT: u64 = 1998;
+    const ROOF_SUPPORT: u64 = 1998 * StoreyWall::TWENTIETHS;
     // 17 × F × a × m/18000
-    const SUPPORT_DIVISOR: u64 = 18000;
+    const SUPPORT_DIVISOR: u64 = 18000 * StoreyWall::TWENTIETHS;
     // 17F(850000at - 11E²)/(3000000t)
     const STRENGTH_FACTOR: u64 = 17;
 
@@ -47,21 +49,22 @@ impl StoreyWall {
         StoreyWall::WHOLE_FIFTHS
     }
 
-    // What a span leaves of SPAN_SUPPORT, not below 0.
-    fn span_support(span: u64) -> u64
-        ensures { λ left. ⌜ left ≡ 9600 - span ⌝ }
+    // What a span in twentieths leaves of SPAN_SUPPORT, not below 0.
+    fn span_support(twentieths: u64) -> u64
+        ensures { λ left. ⌜ left ≡ 192000 - twentieths ⌝ }
     {
-        if StoreyWall::SPAN_SUPPORT < span {
+        if StoreyWall::SPAN_SUPPORT < twentieths {
             return 0;
         }
-        StoreyWall::SPAN_SUPPORT - span
+        StoreyWall::SPAN_SUPPORT - twentieths
     }
 
-    // m, for supports 2 to 4.
-    fn support_factor(support: u64, span: u64) -> u64
-        ensures { λ m. ⌜ SupportFactor m (supportFactor support span) ⌝ }
+    // m in twentieths, for supports 2 to 4.
+    fn support_factor(support: u64, span: u64, other: u64) -> u64
+        requires { ⌜ SpanInputs span other ⌝ }
+        ensures { λ m. ⌜ SupportFactor m (supportFactor support (supportSpan span other)) ⌝ }
     {
-        let left = StoreyWall::span_support(span);
+        let left = StoreyWall::span_support(StoreyWall::support_span(span, other));
         if (support == StoreyWall::UNDER_FLOOR) & (left < StoreyWall::FULL_SUPPORT) {
             return left;
         }
@@ -86,10 +89,10 @@ impl StoreyWall {
             / (StoreyWall::WHOLE_FIFTHS * (StoreyWall::MID_HEIGHT_DIVISOR * thickness))
     }
 
-    // The resistance at the support, reduced and rounded down, with m as a whole number.
+    // The resistance at the support, reduced and rounded down, with m in twentieths.
     fn at_support(fifths: u64, m: u64, bearing: u64, strength: u64) -> u64
         requires { ⌜ SupportInputs fifths m bearing strength ⌝ }
-        ensures { λ rounded. ⌜ rounded ≡ floor (times (fifths ÷ 5) (atSupport bearing strength (whole m))) ⌝ }
+        ensures { λ rounded. ⌜ rounded ≡ floor (times (fifths ÷ 5) (atSupport bearing strength (m ÷ 20))) ⌝ }
     {
         let strength_part = fifths * (StoreyWall::STRENGTH_FACTOR * strength * bearing);
         strength_part * m / (StoreyWall::WHOLE_FIFTHS * StoreyWall::SUPPORT_DIVISOR)
@@ -104,7 +107,7 @@ impl StoreyWall {
         let support = self.support;
         let bearing = self.bearing;
         let strength = self.strength;
-        let m = StoreyWall::support_factor(support, self.span);
+        let m = StoreyWall::support_factor(support, self.span, self.otherspan);
         let middle = StoreyWall::at_mid_height(fifths, thickness, bearing, strength, buckling);
         let end = StoreyWall::at_support(fifths, m, bearing, strength);
         if (support == StoreyWall::INTERMEDIATE_SUPPORT) | (middle < end) {

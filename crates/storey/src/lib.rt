@@ -5,6 +5,7 @@ mod design_resistance;
 mod ranges;
 mod refusals;
 mod result;
+mod spans;
 
 // The numbers of an `S` record, in document 01's order. Lengths are in mm.
 pub struct StoreyWall {
@@ -40,11 +41,13 @@ pub struct StoreyWall {
     pub building: u64,
     // n, full storeys
     pub storeys: u64,
+    // M, the other span, 0 for a one-way slab
+    pub otherspan: u64,
 }
 
 impl StoreyWall {
     // How many numbers the record has.
-    pub const NUMBERS: usize = 16;
+    pub const NUMBERS: usize = 17;
     // What `held` is.
     pub const TWO_SIDES: u64 = 2;
 

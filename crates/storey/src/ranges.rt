@@ -1,4 +1,4 @@
-// Ranges: document 01, "The two lines".
+// Ranges: document 01, "The two lines", and document 02, #101.
 ghost use mathlib.Core.Path.{_≡_};
 ghost use Rattle.storey.specs.Range.{inRange};
 use crate::StoreyWall;
@@ -37,6 +37,8 @@ impl StoreyWall {
 
     const RANGE_GREATEST_STOREYS: u64 = 20;
 
+    const RANGE_GREATEST_OTHER_SPAN: u64 = 20000;
+
     // Whether every number of the record is in its range: both ends of each, in the order of the definition's list.
     pub fn in_range(self) -> bool
         ensures { λ inside. ⌜ inside ≡ inRange self ⌝ }
@@ -61,5 +63,6 @@ impl StoreyWall {
             & ((0 <= self.floorload) & (self.floorload <= StoreyWall::RANGE_GREATEST_FLOOR_LOAD))
             & ((1 <= self.building) & (self.building <= StoreyWall::RANGE_GREATEST_BUILDING))
             & ((1 <= self.storeys) & (self.storeys <= StoreyWall::RANGE_GREATEST_STOREYS))
+            & ((0 <= self.otherspan) & (self.otherspan <= StoreyWall::RANGE_GREATEST_OTHER_SPAN))
     }
 }

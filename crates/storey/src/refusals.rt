@@ -117,8 +117,8 @@ impl StoreyWall {
         let thin = self.thickness < StoreyWall::LIMIT_LEAST_THICKNESS;
         let small = self.length * self.thickness < StoreyWall::LIMIT_LEAST_AREA;
         let tall = StoreyWall::LIMIT_BUILDING < self.building;
-        let long = (StoreyWall::LIMIT_SPAN < self.span)
-            & (self.support != StoreyWall::CENTRED_SUPPORT);
+        let span = StoreyWall::governing_span(self.span, self.otherspan);
+        let long = (StoreyWall::LIMIT_SPAN < span) & (self.support != StoreyWall::CENTRED_SUPPORT);
         let weak = self.strength < StoreyWall::LIMIT_LEAST_STRENGTH;
         let limit = basis::first_refusal(11, weak, 0);
         let limit = basis::first_refusal(10, self.bearing_too_shallow(), limit);

@@ -7,6 +7,7 @@ use Rattle.basis.specs.Refusal.{firstOr}
 use Rattle.basis.specs.Check.{resultOf}
 use Rattle.storey.specs.Range as sr
 use Rattle.storey.specs.BucklingLength as sb
+use Rattle.storey.specs.Span as sp
 use Rattle.storey.specs.Resistance as ss
 use Rattle.storey.specs.Load as sl
 use Rattle.storey.specs.Limits as sm
@@ -27,7 +28,7 @@ unfolding sr.inRange sb.bearingSuffices sb.factor sb.twoSides sb.threeSides sb.f
 lengths w = check w
 
 unfoldable pub resistances : Wall → CheckResult
-unfolding ss.atMidHeight ss.supportFactor ss.atSupport ss.reductionFifths ss.unreduced ss.exactResistance ss.resistance sl.exactLoad sl.load
+unfolding sp.governingSpan sp.spanReduced sp.supportSpan ss.atMidHeight ss.supportFactor ss.atSupport ss.reductionFifths ss.unreduced ss.exactResistance ss.resistance sl.exactLoad sl.load
 resistances w = check w
 
 unfoldable pub storey-limits : Wall → CheckResult

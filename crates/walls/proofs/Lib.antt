@@ -4,4 +4,5 @@ pub mod Comparison
 pub mod Computes
 pub mod MarkedFigures
 pub mod FalseReadings
+pub mod TwoWayFloors
 pub mod OutOfRange

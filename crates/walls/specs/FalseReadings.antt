@@ -7,7 +7,7 @@ use Rattle.basis.specs.Result.{Accepted}
 use Rattle.storey.specs.declared.StoreyWall.{StoreyWall}
 use Rattle.storey.specs.Range.{inRange}
 use Rattle.storey.specs.BucklingLength.{exactLength, bucklingLength}
-use Rattle.storey.specs.Resistance.{supportFactor, unreduced, reduction, resistance}
+use Rattle.storey.specs.Resistance.{supportFactorOf, unreduced, reduction, resistance}
 use Rattle.storey.specs.Check.{check}
 use Rattle.storey.specs.Record.{withThickness, withHeight, withDistance, withBearing}
 
@@ -41,4 +41,4 @@ RoundedBeforeReduction =
     (times (reduction w)
     (whole
     (floor
-    (unreduced (w .support) (w .thickness) (w .bearing) (w .strength) (supportFactor (w .support) (w .span)) (whole (bucklingLength w))))))
+    (unreduced (w .support) (w .thickness) (w .bearing) (w .strength) (supportFactorOf w) (whole (bucklingLength w))))))

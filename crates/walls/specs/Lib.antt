@@ -5,4 +5,5 @@ pub mod Comparison
 pub mod Examples
 pub mod MarkedFigures
 pub mod FalseReadings
+pub mod TwoWayFloors
 pub mod OutOfRange

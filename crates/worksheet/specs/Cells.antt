@@ -23,6 +23,7 @@ cellEntries x =
     ∷ cell (x .floorload)
     ∷ cell (x .building)
     ∷ cell (x .storeys)
+    ∷ cell (x .otherspan)
     ∷ []
 
 -- The record whose numbers are those of the cells.

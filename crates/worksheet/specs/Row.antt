@@ -1,5 +1,6 @@
 -- "A worksheet row is an `S` record whose quantities are f64 cells, all 14 numbers other than held and c."
 -- "Its holding is given as two sides, three sides with the edge distance, or four sides with the spacing, the distance being a cell too."
+-- Document 02, #101, for M: "the worksheet row gains the same cell".
 use Prim.Native.Nat.{ℕ}
 use mathlib.Core.List.{List, [], _∷_}
 use Rattle.storey.specs.declared.StoreyWall.{StoreyWall}
@@ -39,6 +40,7 @@ entries r =
     ∷ cell (r .floorload)
     ∷ cell (r .building)
     ∷ cell (r .storeys)
+    ∷ cell (r .otherspan)
     ∷ []
 
 -- The record that a row turns into.

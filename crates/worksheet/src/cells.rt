@@ -23,6 +23,7 @@ pub struct Cells {
     pub floorload: f64,
     pub building: f64,
     pub storeys: f64,
+    pub otherspan: f64,
 }
 
 impl Cells {
@@ -48,6 +49,7 @@ impl Cells {
             floorload: cell::number(self.floorload),
             building: cell::number(self.building),
             storeys: cell::number(self.storeys),
+            otherspan: cell::number(self.otherspan),
         }
     }
 }

@@ -34,6 +34,7 @@ pub struct Row {
     pub floorload: f64,
     pub building: f64,
     pub storeys: f64,
+    pub otherspan: f64,
 }
 
 impl Holding {
@@ -90,6 +91,7 @@ impl Row {
             floorload: cell::number(self.floorload),
             building: cell::number(self.building),
             storeys: cell::number(self.storeys),
+            otherspan: cell::number(self.otherspan),
         }
     }
 }

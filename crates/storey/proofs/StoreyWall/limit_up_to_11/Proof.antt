@@ -42,6 +42,7 @@ returns c =
       shallow .first-refusal2 .ensures,
       shallow .before .bearing-too-shallow .ensures,
       weak .first-refusal .ensures,
+      weak .before .before .before .governing-span .ensures,
     )
 
 pub limit-up-to-11-spec : {M : Type 1} → statement M
@@ -49,6 +50,7 @@ limit-up-to-11-spec =
     tie.close
     (tie.spec
     mul-small
+    (λ c κs. tt)
     (λ c κs. tt)
     bearing-too-shallow-requires
     (λ c κs. tt)

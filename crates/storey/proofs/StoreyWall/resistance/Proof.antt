@@ -12,7 +12,9 @@ use Rattle.storey.proofs.StoreyWall.resistance.Statement.{statement}
 use Rattle.storey.proofs.StoreyWall.resistance.Tie as tie
 
 support-factor-requires : tie.Need-support-factor-requires
-support-factor-requires c κs = search needs
+support-factor-requires c κs =
+    let all = in-ranges (c .args .self) (c .pre .in-range) in
+    record { span-most = omega arith; other-most = omega arith }
 
 at-mid-height-requires : tie.Need-at-mid-height-requires
 at-mid-height-requires c κs =
@@ -50,12 +52,12 @@ middle c =
     ∙ ap₂ (λ (k E : ℕ). floor (times (k ÷ 5) (atMidHeight (w .thickness) (w .bearing) (w .strength) (whole E)))) (start .pre .reduction) (start .pre .buckling-length)
 
 end : (c : tie.After-at-support) → let w = c .before .before .before .args .self in
-    c .at-support .result ≡ floor (times (reduction w) (atSupport (w .bearing) (w .strength) (whole (c .before .before .support-factor .result))))
+    c .at-support .result ≡ floor (times (reduction w) (atSupport (w .bearing) (w .strength) (c .before .before .support-factor .result ÷ 20)))
 end c =
     let start = c .before .before .before in
     let w = start .args .self in
     c .at-support .ensures
-    ∙ ap (λ (k : ℕ). floor (times (k ÷ 5) (atSupport (w .bearing) (w .strength) (whole (c .before .before .support-factor .result))))) (start .pre .reduction)
+    ∙ ap (λ (k : ℕ). floor (times (k ÷ 5) (atSupport (w .bearing) (w .strength) (c .before .before .support-factor .result ÷ 20)))) (start .pre .reduction)
 
 returns : tie.Need-returns
 returns c =

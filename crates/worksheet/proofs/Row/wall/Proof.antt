@@ -4,7 +4,8 @@ use Rattle.worksheet.proofs.Row.wall.Tie as tie
 
 returns : tie.Need-returns
 returns c =
-    let storeys = c in
+    let otherspan = c in
+    let storeys = otherspan .before in
     let building = storeys .before in
     let floorload = building .before in
     let imposed = floorload .before in
@@ -37,12 +38,14 @@ returns c =
       floorload .number12 .ensures,
       building .number13 .ensures,
       storeys .number14 .ensures,
+      otherspan .number15 .ensures,
     )
 
 pub wall-spec : {M : Type 1} → statement M
 wall-spec =
     tie.close
     (tie.spec
+    (λ c κs. tt)
     (λ c κs. tt)
     (λ c κs. tt)
     (λ c κs. tt)

@@ -1,0 +1,40 @@
+-- `StoreyWall::support_span` meets its contract: its products fit, and 17 or 20 twentieths of the governing span are the definition's.
+use borrow.Author.Needs.{needs}
+use native.Mathlib.Omega.{arith}
+use Rattle.basis.specs.Fraction.{times}
+use Rattle.storey.specs.Span.{spanReduced, supportSpan}
+use Rattle.storey.proofs.Span.{governing-most}
+use Rattle.storey.proofs.StoreyWall.support_span.Statement.{statement}
+use Rattle.storey.proofs.StoreyWall.support_span.Tie as tie
+
+governing-span-requires : tie.Need-governing-span-requires
+governing-span-requires c κs = search needs
+
+mul-if1 : tie.Need-mul-if1
+mul-if1 c = search needs
+
+mul-if1-2 : tie.Need-mul-if1-2
+mul-if1-2 c = search needs
+
+mul-result : tie.Need-mul-result
+mul-result c =
+    let start = c .before .before in
+    omega (arith, c .before .governing-span .ensures, governing-most (start .args .span) (start .args .other), start .pre)
+
+returns : tie.Need-returns
+unfolding supportSpan spanReduced times
+returns c = rw (c .if1 .taken, c .before .governing-span .ensures) (omega arith)
+
+mul-result-2 : tie.Need-mul-result-2
+mul-result-2 c =
+    let start = c .before .before in
+    omega (arith, c .before .governing-span .ensures, governing-most (start .args .span) (start .args .other), start .pre)
+
+returns-2 : tie.Need-returns-2
+unfolding supportSpan spanReduced
+returns-2 c = rw (c .if1 .left, c .before .governing-span .ensures) (omega arith)
+
+pub support-span-spec : {M : Type 1} → statement M
+support-span-spec =
+    tie.close
+    (tie.spec governing-span-requires mul-if1 mul-if1-2 mul-result returns mul-result-2 returns-2)
