@@ -2,8 +2,8 @@
 use borrow.Author.Needs.{needs}
 use native.Mathlib.Omega.{arith}
 use Rattle.basis.specs.Fraction.{times}
-use Rattle.storey.specs.Span.{spanReduced, supportSpan}
-use Rattle.storey.proofs.Span.{governing-most}
+use Rattle.storey.specs.Span.{spanReduced}
+use Rattle.storey.proofs.Span.{governing-most, span-reduced, span-whole}
 use Rattle.storey.proofs.StoreyWall.support_span.Statement.{statement}
 use Rattle.storey.proofs.StoreyWall.support_span.Tie as tie
 
@@ -22,8 +22,10 @@ mul-result c =
     omega (arith, c .before .governing-span .ensures, governing-most (start .args .span) (start .args .other), start .pre)
 
 returns : tie.Need-returns
-unfolding supportSpan spanReduced times
-returns c = rw (c .if1 .taken, c .before .governing-span .ensures) (omega arith)
+unfolding spanReduced times
+returns c =
+    let start = c .before .before in
+    rw (span-reduced (start .args .span) (start .args .other) (c .if1 .taken), c .before .governing-span .ensures) (omega arith)
 
 mul-result-2 : tie.Need-mul-result-2
 mul-result-2 c =
@@ -31,8 +33,10 @@ mul-result-2 c =
     omega (arith, c .before .governing-span .ensures, governing-most (start .args .span) (start .args .other), start .pre)
 
 returns-2 : tie.Need-returns-2
-unfolding supportSpan spanReduced
-returns-2 c = rw (c .if1 .left, c .before .governing-span .ensures) (omega arith)
+unfolding spanReduced
+returns-2 c =
+    let start = c .before .before in
+    rw (span-whole (start .args .span) (start .args .other) (c .if1 .left), c .before .governing-span .ensures) (omega arith)
 
 pub support-span-spec : {M : Type 1} → statement M
 support-span-spec =
