@@ -3,7 +3,7 @@
     python3 oracle/generate.py lines N
         a schedule of N lines; the last one is not ended by byte 10, unless it is empty
     python3 oracle/generate.py rows N
-        N rows, one a line, each as 16 words of 16 hexadecimal digits: the bits of the cells in document 01's order
+        N rows, one a line, each as 17 words of 16 hexadecimal digits: the bits of the cells in document 01's order
 
 The same N gives the same lines, and a smaller N gives the first of them. Behind the edges, which are fewer than
 20000, come random lines and rows without end.
@@ -37,17 +37,19 @@ STOREY_WALLS = [
     A, S(use=2), S(use=3, t=140, a=140, held=4, c=4000, n=2), S(use=3, t=140, a=140, held=3, c=1900, n=2),
     S(use=4, n=1), S(held=3, c=1500), S(held=4, c=3000), S(held=4, c=2000), S(support=2), S(support=3), S(support=4),
     S(t=240, a=240), S(t=240, a=175), S(use=2, t=365, a=245), S(t=365, a=365, h=5000), S(bonded=1), S(w=400),
+    S(support=2, L=6000, M=12000), S(t=365, a=365, support=2, L=10000, M=5000),
 ]
 CELLAR_WALLS = [K, C(c=2500), C(c=3750), C(e=0), C(e=2500), C(bonded=1), C(t=200), C(h=2600, e=2600, c=3000)]
 
 
 def storey_thresholds(wall):
     """The values at which a rule changes, for each number."""
-    t, h, c = wall.t, wall.h, wall.c
+    t, h, c, L, M = wall.t, wall.h, wall.c, wall.L, wall.M
     return StoreyWall(
         use=(), t=THICKNESS_THRESHOLDS, h=(2750, 12 * t, c, 3 * c), w=(40000 // t, 100000 // t),
-        held=(), c=(h, h // 3, 15 * t, 30 * t, 2000, 4500), support=(), L=(4200, 6000, 9600),
-        a=(100, t // 2, 9 * t // 20, 175, t), F=(180,), bonded=(), G=(), Q=(), q=(3000, 5000), H=(20000,), n=(1, 2, 3))
+        held=(), c=(h, h // 3, 15 * t, 30 * t, 2000, 4500), support=(), L=(4200, 6000, 9600, M // 2, M, 2 * M),
+        a=(100, t // 2, 9 * t // 20, 175, t), F=(180,), bonded=(), G=(), Q=(), q=(3000, 5000), H=(20000,), n=(1, 2, 3),
+        M=(L // 2, L, 2 * L, 6000))
 
 
 def cellar_thresholds(wall):
@@ -90,6 +92,16 @@ def holding_edges():
                 yield S(t=t, a=a, held=4, c=c)
 
 
+def two_way_edges():
+    """L against M and the support, where the reduction begins and ends and where the shorter span is 6000. On the thicker
+    wall the support governs more often."""
+    for wall in (A, S(t=365, a=365)):
+        for support in (1, 2, 3, 4):
+            for L in (4499, 4500, 5001, 5999, 6000, 6001, 7000, 9000, 10000):
+                for M in near(0, L // 2, L, 2 * L, 6000):
+                    yield wall._replace(support=support, L=L, M=M)
+
+
 def slenderness_edges():
     """E = 270t, which only the length of two sides reaches."""
     for t in (240, 245, 250, 251, 300, 365, 600, 740):
@@ -129,6 +141,7 @@ def storey_edges():
     yield from thickness_edges()
     yield from area_edges()
     yield from holding_edges()
+    yield from two_way_edges()
     yield from slenderness_edges()
     yield from verdict_edges(STOREY_WALLS)
     yield from verdict_edges(islice(random_storey_walls(Numbers(1)), 200))
@@ -179,7 +192,8 @@ def moderate_storey(numbers):
         w=within(200, 1000) if one_in(4) else within(1000, 9000), held=held, c=c, support=within(1, 4),
         L=within(1000, 6100 if one_in(4) else 6000), a=within(t // 2, t) if one_in(3) else t,
         F=within(170, 1500), bonded=1 if one_in(5) else 0, G=within(1, 160000), Q=within(0, 90000),
-        q=within(0, 5100 if one_in(5) else 3000), H=within(2500, 20100), n=1 if one_in(3) else within(1, 5))
+        q=within(0, 5100 if one_in(5) else 3000), H=within(2500, 20100), n=1 if one_in(3) else within(1, 5),
+        M=0 if one_in(2) else within(1000, 12000))
 
 
 def moderate_cellar(numbers):
@@ -273,7 +287,7 @@ def long_lines():
         yield b'S' * length
     yield from (b'\xff' * 8192, b'0' * 65535, b' ' * 65536, line + b'\r' * 65472, b'C' * 70000)
     for letter in (b'S', b'C'):
-        for count in (9, 10, 11, 15, 16, 17, 19, 20, 21):
+        for count in (9, 10, 11, 16, 17, 18, 19, 20, 21):
             yield letter + b' 999999999' * count
             yield letter + b' 0' * count
             yield letter + b' 1' * count
@@ -332,7 +346,7 @@ def schedule_of(lines):
     return stream + b'\n' if stream.endswith(b'\n') else stream
 
 
-# ---- Rows: 16 words, the bits of the cells in order
+# ---- Rows: 17 words, the bits of the cells in order
 
 def bits(value):
     return struct.unpack('<Q', struct.pack('<d', value))[0]

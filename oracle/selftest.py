@@ -1,4 +1,4 @@
-"""Compares walls.py with the figures of document 01 and the worked examples, and the callers' cases with walls.py.
+"""Compares walls.py with the figures of documents 01 and 02 and the worked examples, and the callers' cases with walls.py.
 
     python3 oracle/selftest.py
 """
@@ -7,7 +7,7 @@ from math import inf, nan, nextafter
 
 from cases import read_lines, read_rows
 from walls import (A, K, StoreyWall, buckling_length, check, check_line, check_row, lent, line_of, need, refused,
-                   row_of, schedule, storey_resistance, text, whole_number)
+                   row_of, schedule, span_reduced, storey_resistance, text, whole_number)
 
 S, C = A._replace, K._replace
 
@@ -50,6 +50,9 @@ WORKED = [
     (S(t=365, a=164), (10, 0, 0, 0, 0)),
     (S(t=240, a=120, h=4800), (13, 48000, 216000, 0, -216000)),
     (S(F=182, bonded=1), (13, 19688, 216000, 102626, -113374)),
+    # Document 02, #101
+    (S(support=2, L=6000, M=12000), (0, 19688, 216000, 352425, 136425)),
+    (S(support=2, L=5999, M=12000), (0, 19688, 216000, 297582, 81582)),
 ]
 
 count = 0
@@ -85,13 +88,18 @@ def documents():
         agree(line_of(wall), check(wall), result)
     agree('t = 365, a = 165 passes refusal 10', check(S(t=365, a=165)).refusal, 0)
     agree('at 176 mm r jumps to 18', buckling_length(S(t=176, a=176)), 23625)
+    for L, reduced in [(4500, True), (4499, False)]:
+        agree(f'reduction with L={L}, M=9000', span_reduced(S(L=L, M=9000)), reduced)
+    for L, M, support, number in [(9000, 6000, 1, 0), (9000, 6001, 1, 9), (6001, 0, 1, 9), (7000, 7000, 1, 9), (7000, 7000, 4, 0)]:
+        agree(f'refusal 9 with L={L}, M={M}, support {support}', check(S(L=L, M=M, support=support)).refusal, number)
+    agree('a line without M', check_line(line_of(A)[:-2]), refused(1))
 
 
 def program():
     agree('no input', schedule(b''), b'')
     agree('empty lines', schedule(b'\n\n'), b'1 0 0 0 0\n' * 2)
-    agree('a line over 200 bytes', schedule(line_of(A) + b' ' * 139), b'1 0 0 0 0\n')
-    agree('longest line of the form', check_line(b'S' + b' 999999999' * 16), refused(2))
+    agree('a line over 200 bytes', schedule(line_of(A) + b' ' * 137), b'1 0 0 0 0\n')
+    agree('longest line of the form', check_line(b'S' + b' 999999999' * 17), refused(2))
 
 
 def rows():

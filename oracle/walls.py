@@ -1,7 +1,7 @@
 """The simplified check of unreinforced masonry walls, in exact fractions.
 
-A calculation of document 01 made apart from the library, in that document's order and with its letters,
-to be read beside it. Programs compare the library with it.
+A calculation of document 01 and of the requests of document 02 made apart from the library, in document 01's order
+and with its letters, to be read beside it. Programs compare the library with it.
 """
 
 import re
@@ -11,14 +11,14 @@ from math import ceil, floor, isfinite
 
 # ---- The two lines
 
-StoreyWall = namedtuple('StoreyWall', 'use t h w held c support L a F bonded G Q q H n')
+StoreyWall = namedtuple('StoreyWall', 'use t h w held c support L a F bonded G Q q H n M')
 CellarWall = namedtuple('CellarWall', 't h e c y F bonded G Q p')
 
 # Lowest and highest value of each number; what depends on another number stands in storey_in_range.
 STOREY_RANGES = StoreyWall(
     use=(1, 4), t=(1, 1000), h=(1, 20000), w=(1, 20000), held=(2, 4), c=(0, 30000), support=(1, 4),
     L=(1, 20000), a=(1, 1000), F=(1, 5000), bonded=(0, 1), G=(1, 10000000), Q=(0, 10000000),
-    q=(0, 100000), H=(1, 200000), n=(1, 20))
+    q=(0, 100000), H=(1, 200000), n=(1, 20), M=(0, 20000))
 CELLAR_RANGES = CellarWall(
     t=(1, 1000), h=(1, 20000), e=(0, 20000), c=(1, 30000), y=(1, 30000), F=(1, 5000), bonded=(0, 1),
     G=(1, 10000000), Q=(0, 10000000), p=(0, 100000))
@@ -90,10 +90,25 @@ def buckling_length(wall):
     return ceil(exact_buckling_length(wall))
 
 
+def governing_span(wall):
+    """#101: with M above 0 the shorter of L and M stands for L."""
+    return min(wall.L, wall.M) if wall.M > 0 else wall.L
+
+
+def span_reduced(wall):
+    """#101: M above 0, M ≤ 2L and L ≤ 2M."""
+    return wall.M > 0 and wall.M <= 2 * wall.L and wall.L <= 2 * wall.M
+
+
+def span_in_m(wall):
+    """#101: with the reduction 0.85 times the shorter span, unrounded."""
+    return Fraction(85, 100) * governing_span(wall) if span_reduced(wall) else governing_span(wall)
+
+
 def span_value_m(wall):
     """m, for supports 2 to 4."""
     if wall.support == 2:
-        return min(5400, 9600 - wall.L)
+        return min(5400, 9600 - span_in_m(wall))
     if wall.support == 3:
         return 1998
     return 5400
@@ -104,7 +119,7 @@ def exact_resistance(wall, E):
     t, a, F = wall.t, wall.a, wall.F
     smaller = Fraction(17 * F * (850000 * a * t - 11 * E**2), 3000000 * t)
     if wall.support != 1:
-        smaller = min(smaller, Fraction(17 * F * a * span_value_m(wall), 18000))
+        smaller = min(smaller, Fraction(17 * F * a, 18000) * span_value_m(wall))
     not_below_0 = max(smaller, Fraction(0))
     if wall.w * t < 100000 or wall.bonded == 1:
         return not_below_0 * Fraction(4, 5)
@@ -155,7 +170,7 @@ def cellar_resistance(wall):
 
 Result = namedtuple('Result', 'refusal second load resistance spare')
 
-A = read_line(b'S 1 175 2625 5000 2 0 1 5000 175 500 0 60000 90000 2250 9000 3')
+A = read_line(b'S 1 175 2625 5000 2 0 1 5000 175 500 0 60000 90000 2250 9000 3 0')
 K = read_line(b'C 365 2500 2000 6000 20000 500 0 40000 10000 5000')
 
 
@@ -192,7 +207,7 @@ STOREY_REFUSALS = [
     (6, above_height_limit),
     (7, lambda wall: wall.q > 5000 or (wall.q > 3000 and wall.use != 1 and wall.t < 175)),
     (8, lambda wall: wall.H > 20000),
-    (9, lambda wall: wall.L > 6000 and wall.support != 4),
+    (9, lambda wall: governing_span(wall) > 6000 and wall.support != 4),
     (10, refused_bearing),
     (11, lambda wall: wall.F < 180),
     (12, lambda wall: buckling_length(wall) > 270 * wall.t),
@@ -281,7 +296,7 @@ def row_of(wall):
 
 
 def check_row(cells):
-    """The result of a row of 16 cells, the numbers of a line in its order: that of the line with the same numbers, and
+    """The result of a row of 17 cells, the numbers of a line in its order: that of the line with the same numbers, and
     refusal 2 where a cell is no whole number."""
     numbers = [whole_number(cell) for cell in cells]
     return refused(2) if None in numbers else check_storey(StoreyWall(*numbers))

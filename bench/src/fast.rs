@@ -3,7 +3,7 @@
 use crate::{filled, refused, CheckResult, Row, LONGEST_LINE, SHORTEST_BUFFER};
 use std::io::{self, Read, Write};
 
-const STOREY_NUMBERS: usize = 16;
+const STOREY_NUMBERS: usize = 17;
 const CELLAR_NUMBERS: usize = 10;
 
 /// Input and output are moved in pieces of this many bytes.
@@ -69,7 +69,7 @@ fn load(dead: u64, imposed: u64) -> u64 {
 
 #[inline(always)]
 fn storey_in_range(numbers: &[u64; STOREY_NUMBERS]) -> bool {
-    let [usage, t, h, w, held, c, support, span, a, f, bonded, dead, imposed, floor_load, building, storeys] =
+    let [usage, t, h, w, held, c, support, span, a, f, bonded, dead, imposed, floor_load, building, storeys, other] =
         *numbers;
     // Without branches between the tests: nearly all lines pass all of them.
     within(usage, 1, 4)
@@ -89,12 +89,30 @@ fn storey_in_range(numbers: &[u64; STOREY_NUMBERS]) -> bool {
         & (floor_load <= 100_000)
         & within(building, 1, 200_000)
         & within(storeys, 1, 20)
+        & (other <= 20_000)
+}
+
+/// The shorter of both spans, where there is another one.
+#[inline(always)]
+fn governing_span(span: u64, other: u64) -> u64 {
+    if (other != 0) & (other < span) {
+        other
+    } else {
+        span
+    }
+}
+
+/// The span in m, in twentieths of a mm.
+#[inline(always)]
+fn support_span(span: u64, other: u64) -> u64 {
+    let reduced = (other != 0) & (other <= 2 * span) & (span <= 2 * other);
+    governing_span(span, other) * if reduced { 17 } else { 20 }
 }
 
 /// The first of refusals 3 to 11 that applies, or 0.
 #[inline(always)]
 fn storey_limit(numbers: &[u64; STOREY_NUMBERS]) -> u64 {
-    let [usage, t, h, w, held, c, support, span, a, f, _, _, _, floor_load, building, storeys] =
+    let [usage, t, h, w, held, c, support, span, a, f, _, _, _, floor_load, building, storeys, other] =
         *numbers;
     if t < 115 {
         return 3;
@@ -122,7 +140,7 @@ fn storey_limit(numbers: &[u64; STOREY_NUMBERS]) -> u64 {
     if building > 20_000 {
         return 8;
     }
-    if span > 6000 && support != 4 {
+    if governing_span(span, other) > 6000 && support != 4 {
         return 9;
     }
     if a <= 100 || if t == 365 { a < 165 } else { 2 * a < t } {
@@ -168,7 +186,8 @@ fn check_storey(numbers: &[u64; STOREY_NUMBERS]) -> CheckResult {
     if limit != 0 {
         return refused(limit);
     }
-    let [_, t, h, w, held, c, support, span, a, f, bonded, dead, imposed, ..] = *numbers;
+    let [_, t, h, w, held, c, support, span, a, f, bonded, dead, imposed, _, _, _, other] =
+        *numbers;
     let e = buckling_length(t, h, held, c, a);
     if e > 270 * t {
         return refused(12);
@@ -179,11 +198,11 @@ fn check_storey(numbers: &[u64; STOREY_NUMBERS]) -> CheckResult {
     let mut resistance = times * (850_000 * a * t).saturating_sub(11 * e * e) / (15_000_000 * t);
     if support != 1 {
         let m = match support {
-            2 => (9600 - span).min(5400),
-            3 => 1998,
-            _ => 5400,
+            2 => (192_000 - support_span(span, other)).min(108_000),
+            3 => 39_960,
+            _ => 108_000,
         };
-        resistance = resistance.min(times * a * m / 90_000);
+        resistance = resistance.min(times * a * m / 1_800_000);
     }
     let load = load(dead, imposed);
     filled(if load > resistance { 13 } else { 0 }, e, load, resistance)

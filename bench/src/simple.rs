@@ -20,6 +20,7 @@ struct StoreyWall {
     floor_load: u64,
     building: u64,
     storeys: u64,
+    other_span: u64,
 }
 
 struct CellarWall {
@@ -49,7 +50,7 @@ fn number(word: &str) -> Option<u64> {
 }
 
 fn storey_wall(n: &[u64]) -> Option<StoreyWall> {
-    (n.len() == 16).then(|| StoreyWall {
+    (n.len() == 17).then(|| StoreyWall {
         usage: n[0],
         thickness: n[1],
         height: n[2],
@@ -66,6 +67,7 @@ fn storey_wall(n: &[u64]) -> Option<StoreyWall> {
         floor_load: n[13],
         building: n[14],
         storeys: n[15],
+        other_span: n[16],
     })
 }
 
@@ -122,6 +124,7 @@ impl StoreyWall {
             && self.floor_load <= 100_000
             && (1..=200_000).contains(&self.building)
             && (1..=20).contains(&self.storeys)
+            && self.other_span <= 20_000
     }
 
     fn use_refused(&self) -> bool {
@@ -188,13 +191,28 @@ impl StoreyWall {
         length as u64
     }
 
+    /// The shorter of both spans, where there is another one.
+    fn governing_span(&self) -> u64 {
+        match self.other_span {
+            0 => self.span,
+            other => self.span.min(other),
+        }
+    }
+
+    /// The span in m, in hundredths of a mm.
+    fn support_span(&self) -> u64 {
+        let other = self.other_span;
+        let reduced = other > 0 && other <= 2 * self.span && self.span <= 2 * other;
+        self.governing_span() * if reduced { 85 } else { 100 }
+    }
+
     fn resistance(&self, buckling_length: u64) -> u64 {
         let [t, a, f, e, l] = [
             self.thickness,
             self.bearing,
             self.strength,
             buckling_length,
-            self.span,
+            self.support_span(),
         ]
         .map(i128::from);
         let (times, over) = if self.length * self.thickness < 100_000 || self.bonded == 1 {
@@ -206,11 +224,11 @@ impl StoreyWall {
             times * 17 * f * (850_000 * a * t - 11 * e * e) / (over * 3_000_000 * t);
         let m = match self.support {
             1 => return in_the_middle.max(0) as u64,
-            2 => (9600 - l).min(5400),
-            3 => 1998,
-            _ => 5400,
+            2 => (960_000 - l).min(540_000),
+            3 => 199_800,
+            _ => 540_000,
         };
-        let at_the_floor = times * 17 * f * a * m / (over * 18_000);
+        let at_the_floor = times * 17 * f * a * m / (over * 1_800_000);
         in_the_middle.min(at_the_floor).max(0) as u64
     }
 
@@ -229,7 +247,7 @@ impl StoreyWall {
             7
         } else if self.building > 20_000 {
             8
-        } else if self.span > 6000 && self.support != 4 {
+        } else if self.governing_span() > 6000 && self.support != 4 {
             9
         } else if self.bearing_refused() {
             10

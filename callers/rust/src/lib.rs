@@ -11,7 +11,7 @@ pub struct CheckResult {
     pub spare: i64,
 }
 
-/// A worksheet row: the 16 numbers of a storey wall's line, in its order.
+/// A worksheet row: the 17 numbers of a storey wall's line, in its order.
 #[repr(C)]
 #[derive(Clone, Copy, Debug, Default)]
 pub struct Cells {
@@ -31,10 +31,11 @@ pub struct Cells {
     pub floorload: f64,
     pub building: f64,
     pub storeys: f64,
+    pub otherspan: f64,
 }
 
-impl From<[f64; 16]> for Cells {
-    fn from(cells: [f64; 16]) -> Cells {
+impl From<[f64; 17]> for Cells {
+    fn from(cells: [f64; 17]) -> Cells {
         Cells {
             usage: cells[0],
             thickness: cells[1],
@@ -52,6 +53,7 @@ impl From<[f64; 16]> for Cells {
             floorload: cells[13],
             building: cells[14],
             storeys: cells[15],
+            otherspan: cells[16],
         }
     }
 }

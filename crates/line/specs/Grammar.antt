@@ -20,7 +20,7 @@ unfoldable pub fields : List ℕ → List ℕ
 fields [] = []
 fields (number ∷ numbers) = 32 ∷ decimal number ++ fields numbers
 
--- "`S` and 16 numbers", "`C` and 10 numbers": how many follow a letter. No line begins with another byte.
+-- "`S` and 16 numbers", to which document 02 adds, and "`C` and 10 numbers": how many follow a letter. No line begins with another byte.
 unfoldable pub countOf : ℕ → ℕ
 countOf letter = cond (eqb letter 83) storey-record.count (cond (eqb letter 67) cellar-record.count 0)
 

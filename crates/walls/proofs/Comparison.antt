@@ -4,7 +4,9 @@
 -- A deeper bearing never raises the factor r, and r times a lower clear height is no greater: so the exact buckling length never grows.
 -- On two sides it is proportional to that product. On four sides it grows with it up to h = c and stays at most 5c beyond.
 -- On three sides it grows with the product only up to h = 3c; beyond that a lower wall can have the longer length, hence the clause.
--- A shorter length, a deeper bearing, a greater strength and a shorter span each never lower the resistance; lighter loads never raise the load.
+-- A shorter L never lengthens the governing span. Nor does it lengthen the span in m as long as both records take the same part of the governing
+-- one; a shorter L can lose the reduction to 0.85 of it, hence the clause on L.
+-- A shorter length, a deeper bearing, a greater strength and a shorter span in m each never lower the resistance; lighter loads never raise the load.
 -- Each limit compares one of these quantities, or the length, with a bound that both records share. So whatever the first keeps, the second keeps.
 --
 -- Cellar. Resistance, required load and limits do not look at G and Q. The load grows with both, so the high end bounds it by the resistance;

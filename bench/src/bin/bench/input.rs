@@ -61,6 +61,11 @@ fn storey_numbers(random: &mut Random) -> Vec<u64> {
         random.within(3000, 20_000),
     ]);
     numbers.push(random.within(1, 4));
+    numbers.push(if random.one_in(2) {
+        0
+    } else {
+        random.within(1000, 9000)
+    });
     numbers
 }
 
