@@ -30,6 +30,26 @@ fn from_library(result: wallcheck::CheckResult) -> CheckResult {
     }
 }
 
+/// The functions of rows.c.
+mod rows {
+    use wallcheck::{Cells, CheckResult};
+
+    extern "C" {
+        fn rows_check(cells: *const Cells) -> CheckResult;
+        fn rows_check_into(cells: *const Cells, out: *mut u8, out_len: usize) -> CheckResult;
+    }
+
+    // Sound: the pointers and the length are those of references that live throughout the call.
+
+    pub fn check(cells: &Cells) -> CheckResult {
+        unsafe { rows_check(cells) }
+    }
+
+    pub fn check_into(cells: &Cells, out: &mut [u8]) -> CheckResult {
+        unsafe { rows_check_into(cells, out.as_mut_ptr(), out.len()) }
+    }
+}
+
 fn row_of(line: &[u8]) -> Option<(Cells, Row)> {
     let words = std::str::from_utf8(line)
         .ok()?
@@ -118,7 +138,7 @@ pub fn measure(passes: usize, lines: &[&[u8]]) -> Vec<Times> {
             "row",
             passes,
             &rows,
-            |(cells, _)| wallcheck::check_row(*cells),
+            |(cells, _)| rows::check(cells),
             |(_, row)| fast::check_row(row),
             |(_, row)| simple::check_row(row),
         ),
@@ -126,7 +146,7 @@ pub fn measure(passes: usize, lines: &[&[u8]]) -> Vec<Times> {
             "row into a buffer",
             passes,
             &rows,
-            |(cells, _)| wallcheck::check_row_into(*cells, first),
+            |(cells, _)| rows::check_into(cells, first),
             |(_, row)| fast::check_row_into(row, second),
             |(_, row)| simple::check_row_into(row, third),
         ),
