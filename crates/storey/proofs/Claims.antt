@@ -9,16 +9,22 @@ use Rattle.basis.proofs.Check as any-check
 use Rattle.basis.proofs.Fraction.{ceil-rounds-up, floor-rounds-down}
 use Rattle.basis.proofs.Refusal.{NoneApplies-split}
 use Rattle.storey.specs.declared.StoreyWall.{StoreyWall}
+use Rattle.storey.specs.Span.{governingSpan}
 use Rattle.storey.specs.BucklingLength.{exactLength, bucklingLength}
 use Rattle.storey.specs.Resistance.{exactResistance, resistance}
 use Rattle.storey.specs.Load.{load}
 use Rattle.storey.specs.Limits.{limitsUpTo11, slendernessLimit, tooSlender}
 use Rattle.storey.specs.Check.{parts, check}
-use Rattle.storey.specs.Claims.{LengthRoundedUp, ResistanceRoundedDown, AcceptedExactly}
+use Rattle.storey.specs.Claims.{OneWaySpans, LengthRoundedUp, ResistanceRoundedDown, AcceptedExactly}
 use Rattle.storey.proofs.BucklingLength.{exact-length-den}
 use Rattle.storey.proofs.Load.{load-most}
 use Rattle.storey.proofs.Range.{in-ranges}
+use Rattle.storey.proofs.Span.{span-one-way}
 use Rattle.storey.proofs.Resistance.{resistance-den, resistance-most}
+
+pub one-way-spans : OneWaySpans
+unfolding governingSpan
+one-way-spans L = (refl, span-one-way L 0 refl)
 
 pub length-rounded-up : LengthRoundedUp
 unfolding bucklingLength

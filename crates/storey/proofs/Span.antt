@@ -44,7 +44,7 @@ module _ (L M : ℕ) where
   span-whole isnt = rw isnt refl
 
   -- Without another span it is L.
-  span-one-way : M ≡ 0 → supportSpan L M ≡ whole L
+  pub span-one-way : M ≡ 0 → supportSpan L M ≡ whole L
   unfolding supportSpan spanReduced governingSpan
   span-one-way none = rw none refl
 

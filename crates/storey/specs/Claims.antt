@@ -11,11 +11,16 @@ use Rattle.basis.specs.Check.{reported}
 use Rattle.storey.specs.declared.StoreyWall.{StoreyWall}
 use Rattle.storey.specs.declared.Assessment.the-variants.{Within}
 use Rattle.storey.specs.Range.{inRange}
+use Rattle.storey.specs.Span.{governingSpan, supportSpan}
 use Rattle.storey.specs.BucklingLength.{exactLength, bucklingLength}
 use Rattle.storey.specs.Resistance.{exactResistance, resistance}
 use Rattle.storey.specs.Load.{load}
 use Rattle.storey.specs.Limits.{slendernessLimit, limits}
 use Rattle.storey.specs.Check.{parts, check, assessment, behind, Assessed}
+
+-- Document 02, #101: "0 for a one-way slab". Refusal 9 and m then take L, as document 01 has it.
+abbrev pub OneWaySpans : Type 0
+OneWaySpans = (L : ℕ) → (governingSpan L 0 ≡ L) × (supportSpan L 0 ≡ whole L)
 
 -- E is the exact buckling length rounded up.
 abbrev pub LengthRoundedUp : Type 0

@@ -21,7 +21,7 @@ impl StoreyWall {
     const SPAN_SUPPORT: u64 = 9600 * StoreyWall::TWENTIETHS;
 
     const ROOF_SUPPORT: u64 = 1998 * StoreyWall::TWENTIETHS;
-    // 17 × F × a × m/18000
+    // 17 × F × a × m/18000, with m in twentieths
     const SUPPORT_DIVISOR: u64 = 18000 * StoreyWall::TWENTIETHS;
     // 17F(850000at - 11E²)/(3000000t)
     const STRENGTH_FACTOR: u64 = 17;

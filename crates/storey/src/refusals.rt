@@ -44,7 +44,7 @@ impl StoreyWall {
     const LIMIT_FLOOR_LOAD_THICKNESS: u64 = 175;
     // 8
     const LIMIT_BUILDING: u64 = 20000;
-    // 9: not for a support with centring strip.
+    // 9: of the governing span; not for a support with centring strip.
     const LIMIT_SPAN: u64 = 6000;
 
     const CENTRED_SUPPORT: u64 = 4;
