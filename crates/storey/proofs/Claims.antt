@@ -1,21 +1,23 @@
 -- Proofs of the claims of specs/Claims.antt.
-use Prim.Native.Nat.{_*_}
-use mathlib.Core.Path.{refl}
+use Prim.Native.Nat.{_*_, min}
+use mathlib.Core.Bool.{and-comm}
+use mathlib.Core.Path.{_≡_, refl}
 use native.Mathlib.Omega.{arith}
-use borrow.Author.Tests.{ltb-false, le-ltb}
+use borrow.Author.Tests.{ltb-false, lt-ltb, le-ltb}
+use lib.Dec.{leb}
 use Rattle.basis.specs.Fraction.{whole}
 use Rattle.basis.specs.Result.{Below}
 use Rattle.basis.proofs.Check as any-check
 use Rattle.basis.proofs.Fraction.{ceil-rounds-up, floor-rounds-down}
 use Rattle.basis.proofs.Refusal.{NoneApplies-split}
 use Rattle.storey.specs.declared.StoreyWall.{StoreyWall}
-use Rattle.storey.specs.Span.{governingSpan}
+use Rattle.storey.specs.Span.{governingSpan, spanReduced, supportSpan}
 use Rattle.storey.specs.BucklingLength.{exactLength, bucklingLength}
 use Rattle.storey.specs.Resistance.{exactResistance, resistance}
 use Rattle.storey.specs.Load.{load}
 use Rattle.storey.specs.Limits.{limitsUpTo11, slendernessLimit, tooSlender}
 use Rattle.storey.specs.Check.{parts, check}
-use Rattle.storey.specs.Claims.{OneWaySpans, LengthRoundedUp, ResistanceRoundedDown, AcceptedExactly}
+use Rattle.storey.specs.Claims.{OneWaySpans, SpansExchange, LengthRoundedUp, ResistanceRoundedDown, AcceptedExactly}
 use Rattle.storey.proofs.BucklingLength.{exact-length-den}
 use Rattle.storey.proofs.Load.{load-most}
 use Rattle.storey.proofs.Range.{in-ranges}
@@ -25,6 +27,12 @@ use Rattle.storey.proofs.Resistance.{resistance-den, resistance-most}
 pub one-way-spans : OneWaySpans
 unfolding governingSpan
 one-way-spans L = (refl, span-one-way L 0 refl)
+
+pub spans-exchange : SpansExchange
+unfolding governingSpan spanReduced supportSpan
+spans-exchange L M one other =
+    let shorter : min L M ≡ min M L = omega arith in
+    rw (lt-ltb 0 L one, lt-ltb 0 M other, shorter, and-comm (leb M (2 * L)) (leb L (2 * M))) (refl, refl)
 
 pub length-rounded-up : LengthRoundedUp
 unfolding bucklingLength

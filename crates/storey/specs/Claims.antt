@@ -1,6 +1,6 @@
 -- Demand 2 for a storey wall, as claims about the definitions; their proofs stand in proofs/Claims.antt. What holds of any check stands in
 -- basis, what holds of both kinds in walls.
-use Prim.Native.Nat.{ℕ, _≤_}
+use Prim.Native.Nat.{ℕ, _≤_, _<_}
 use mathlib.Core.Bool.{true}
 use mathlib.Core.Logic.{_↔_}
 use mathlib.Core.Path.{_≡_}
@@ -21,6 +21,10 @@ use Rattle.storey.specs.Check.{parts, check, assessment, behind, Assesse
 -- Document 02, #101: "0 for a one-way slab". Refusal 9 and m then take L, as document 01 has it.
 abbrev pub OneWaySpans : Type 0
 OneWaySpans = (L : ℕ) → (governingSpan L 0 ≡ L) × (supportSpan L 0 ≡ whole L)
+
+-- #101 speaks of both spans alike: which of them is entered as L makes no difference.
+abbrev pub SpansExchange : Type 0
+SpansExchange = (L M : ℕ) → 0 < L → 0 < M → (governingSpan L M ≡ governingSpan M L) × (supportSpan L M ≡ supportSpan M L)
 
 -- E is the exact buckling length rounded up.
 abbrev pub LengthRoundedUp : Type 0
