@@ -1,5 +1,5 @@
 /* Rows as a C program hands them over. The cells are passed by value: gcc copies them by single moves, while rustc and
- * clang copy more than 128 bytes by `rep movsq`, which takes 20 ns whatever the library then does. */
+ * clang copy more than 128 bytes by `rep movsq`, which takes some 10 ns more whatever the library then does. */
 #include "wallcheck.h"
 
 wallcheck_result rows_check(const wallcheck_cells *cells)
