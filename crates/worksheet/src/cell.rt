@@ -18,6 +18,7 @@ const NO_NUMBER: u64 = 0xffff_ffff_ffff_ffff;
 // Each exponent below that of the largest number moves one more digit behind the point. The number is whole where
 // these digits are 0, and what stands before them is then the number. A significand ends in 52 zeros at most; below 1
 // more than 52 digits stand behind the point, and for a negative or too large x the difference wraps to more than 1000.
+// The last two tests choose between values at hand: a branch would have to guess which cells are 0.
 pub fn number(x: f64) -> u64
     ensures { λ whole. ⌜ whole ≡ cellNumber x ⌝ }
 {
@@ -27,11 +28,12 @@ pub fn number(x: f64) -> u64
     let bits = f64::to_bits(x);
     let places = wrapping_sub_u64(LARGEST, bits) / LEADING;
     let significand = LEADING + bits % LEADING;
-    if places <= u64::trailing_zeros(significand) as u64 {
-        return significand >> places;
-    }
+    let mut number = NO_NUMBER; // a fraction, negative, too large, or infinite
     if bits % SIGN == 0 {
-        return 0; // zero of either sign
+        number = 0; // zero of either sign
     }
-    NO_NUMBER // a fraction, negative, too large, or infinite
+    if places <= u64::trailing_zeros(significand) as u64 {
+        number = significand >> places;
+    }
+    number
 }

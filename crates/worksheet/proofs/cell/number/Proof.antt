@@ -3,6 +3,7 @@ use Prim.Native.Nat.{ℕ}
 use native.Mathlib.Nat.{not-le-of-lt}
 use native.Mathlib.Omega.{arith}
 use mathlib.Core.Bool.{true, false, not}
+use mathlib.Core.Logic.{⊎-elim}
 use mathlib.Core.Path.{_≡_, sym, ap, _∙_, subst}
 use lib.Count.{trailing-le}
 use lib.Dec.{T}
@@ -56,23 +57,25 @@ wrapping-sub-u64-requires c κs = search needs
 add-significand : tie.Need-add-significand
 add-significand c = search needs
 
-cast-if2 : tie.Need-cast-if2
-cast-if2 c = fits-below tt (trailing-le 64 _)
+cast-if3 : tie.Need-cast-if3
+cast-if3 c = fits-below tt (trailing-le 64 _)
 
-shr-result : tie.Need-shr-result
-shr-result c = omega (arith, places-few _ _ (difference (c .before)) (c .if2 .taken))
+shr-number : tie.Need-shr-number
+shr-number c = omega (arith, places-few _ _ (difference (c .before .before)) (c .if3 .taken))
 
 returns-2 : tie.Need-returns-2
-returns-2 c = number-whole _ _ (difference (c .before)) (c .if2 .taken) ∙ read-back (c .before .before .before)
+returns-2 c = number-whole _ _ (difference (c .before .before)) (c .if3 .taken) ∙ read-back (c .before .before .before .before)
 
 returns-3 : tie.Need-returns-3
-returns-3 c = let start = c .before .before .before .before in number-zero (bits start) (omega arith) ∙ read-back start
-
-returns-4 : tie.Need-returns-4
-returns-4 c =
-    number-none _ _ (difference (c .before .before)) (not-le-of-lt (c .before .if2 .left)) (c .if3 .left) ∙ read-back (c .before .before .before .before)
+returns-3 c =
+    let subtracted = c .before .before in
+    let start = subtracted .before .before in
+    ⊎-elim
+    (λ zero·. rw (zero· .1) (number-zero (bits start) (omega (arith, zero· .0 .taken)) ∙ read-back start))
+    (λ other. rw (other .1) (number-none _ _ (difference subtracted) (not-le-of-lt (c .if3 .left)) (other .0 .left) ∙ read-back start))
+    (c .before .if2 .came)
 
 pub number-spec : {M : Type 1} → statement M
 number-spec =
     tie.close
-    (tie.spec returns float-to-bits-bits wrapping-sub-u64-requires add-significand cast-if2 shr-result returns-2 returns-3 returns-4)
+    (tie.spec returns float-to-bits-bits wrapping-sub-u64-requires add-significand cast-if3 shr-number returns-2 returns-3)
