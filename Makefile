@@ -12,8 +12,10 @@ SONAME = libwallcheck.so.$(firstword $(subst ., ,$(VERSION)))
 SHARED = libwallcheck.so.$(VERSION)
 FUNCTIONS = wallcheck_edition wallcheck_line wallcheck_line_into wallcheck_row wallcheck_row_into
 BUILD = build
-CC ?= gcc
-CARGO_ENV = CC=$(CC) WALLCHECK_LIB_DIR=$(CURDIR)/dist CARGO_TARGET_DIR=$(CURDIR)/$(BUILD)/cargo
+ifeq ($(origin CC),default)
+CC = gcc
+endif
+CARGO_ENV = CC="$(CC)" WALLCHECK_LIB_DIR=$(CURDIR)/dist CARGO_TARGET_DIR=$(CURDIR)/$(BUILD)/cargo
 # The folders too: a file that is removed changes its folder.
 SOURCES := $(shell find crates/ -path '*/must-fail' -prune -o \( -type d -o -name '*.rt' -o -name '*.antt' \) -print)
 

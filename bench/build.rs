@@ -11,8 +11,10 @@ fn main() {
         return;
     }
     let compiler = env::var("CC").unwrap_or_else(|_| "gcc".into());
+    let mut words = compiler.split_whitespace();
     let object = format!("{}/rows.o", env::var("OUT_DIR").expect("OUT_DIR"));
-    let compiled = Command::new(&compiler)
+    let compiled = Command::new(words.next().expect("CC names a compiler"))
+        .args(words)
         .args(["-std=c11", "-O2", "-I../include", "-c", "rows.c", "-o"])
         .arg(&object)
         .status();

@@ -3,7 +3,7 @@
     python3 oracle/generate.py lines N
         a schedule of N lines; the last one is not ended by byte 10, unless it is empty
     python3 oracle/generate.py rows N
-        N rows, one a line, each as 17 words of 16 hexadecimal digits: the bits of the cells in document 01's order
+        N rows, one a line, each as 17 words of 16 hexadecimal digits: the bits of the cells in the line's order
 
 The same N gives the same lines, and a smaller N gives the first of them. Behind the edges, which are fewer than
 20000, come random lines and rows without end.

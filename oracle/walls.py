@@ -1,7 +1,7 @@
 """The simplified check of unreinforced masonry walls, in exact fractions.
 
-A calculation of document 01 and of the requests of document 02 made apart from the library, in document 01's order
-and with its letters, to be read beside it. Programs compare the library with it.
+A calculation of document 01 and of those requests of document 02 that have landed, made apart from the library, in
+document 01's order and with its letters, to be read beside it. Programs compare the library with it.
 """
 
 import re

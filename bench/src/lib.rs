@@ -1,4 +1,4 @@
-//! The wall check of documents 01 and 02 in plain Rust, without proofs, to compare speed with: `simple` as one would first
+//! The wall check in plain Rust, without proofs, to compare speed with: `simple` as one would first
 //! write it, `fast` as fast as reading byte by byte can be made. Each has the whole program and functions for one
 //! line and one row.
 
@@ -15,7 +15,7 @@ pub struct CheckResult {
     pub spare: i64,
 }
 
-/// A worksheet row: the 17 cells in document 01's order.
+/// A worksheet row: the 17 cells in the line's order.
 pub type Row = [f64; 17];
 
 /// A line over this many bytes is refusal 1.

@@ -14,8 +14,8 @@ impl StoreyWall {
     const UNDER_FLOOR: u64 = 2;
 
     const UNDER_ROOF: u64 = 3;
-    // m: the smaller of FULL_SUPPORT and SPAN_SUPPORT - L under a floor, ROOF_SUPPORT under a roof, else FULL_SUPPORT. In
-    // twentieths, as the span is that enters it.
+    // m: the smaller of FULL_SUPPORT and SPAN_SUPPORT less the span under a floor, ROOF_SUPPORT under a roof, else
+    // FULL_SUPPORT. In twentieths, as the span is that enters it.
     const FULL_SUPPORT: u64 = 5400 * StoreyWall::TWENTIETHS;
 
     const SPAN_SUPPORT: u64 = 9600 * StoreyWall::TWENTIETHS;

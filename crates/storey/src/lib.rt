@@ -1,4 +1,5 @@
-// The storey wall of document 01: its record; its ranges, limits, factors and check stand in one module for each heading.
+// The storey wall of document 01: its record; its ranges, limits, factors and check stand in one module for each heading;
+// `spans` is document 02, #101.
 mod buckling_length;
 mod design_load;
 mod design_resistance;
@@ -7,7 +8,7 @@ mod refusals;
 mod result;
 mod spans;
 
-// The numbers of an `S` record, in document 01's order. Lengths are in mm.
+// The numbers of an `S` record, in document 01's order, then M of document 02, #101. Lengths are in mm.
 pub struct StoreyWall {
     // use: 1 inner, 2 single-leaf outer, 3 bearing leaf or party wall, 4 garage outer
     pub usage: u64,

@@ -15,6 +15,6 @@ ShorterLosesReduction = (spanReduced 4500 9000 ≡ true) × (spanReduced 4499 90
 abbrev pub twoWayA : StoreyWall
 twoWayA = withOtherSpan (withSupport exampleA 2) 12000
 
--- With the reduction a shorter span loses resistance. This is about the definition of the resistance, whatever the range of M.
+-- A shorter span that loses the reduction can lose resistance. This is about the definition of the resistance, whatever the range of M.
 abbrev pub ShorterLosesResistance : Type 0
 ShorterLosesResistance = (resistance (withSpan twoWayA 6000) ≡ 352425) × (resistance (withSpan twoWayA 5999) ≡ 297582)

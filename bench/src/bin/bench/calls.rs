@@ -60,19 +60,31 @@ fn row_of(line: &[u8]) -> Option<(Cells, Row)> {
     Some((row.into(), row))
 }
 
-/// Whether the three agree on every line and row, in the result and in the bytes of a lent buffer.
+/// Whether the calls of `measure` agree on a line, in the result and in the bytes of a lent buffer.
+fn agree_on_line(line: &[u8]) -> bool {
+    let mut out = [[0xA5; 64]; 3];
+    from_library(wallcheck::check_line_into(line, &mut out[0]))
+        == fast::check_line_into(line, &mut out[1])
+        && fast::check_line(line) == simple::check_line_into(line, &mut out[2])
+        && from_library(wallcheck::check_line(line)) == simple::check_line(line)
+        && out[0] == out[1]
+        && out[1] == out[2]
+}
+
+/// The same for a row.
+fn agree_on_row(cells: &Cells, row: &Row) -> bool {
+    let mut out = [[0xA5; 64]; 3];
+    from_library(rows::check_into(cells, &mut out[0])) == fast::check_row_into(row, &mut out[1])
+        && fast::check_row(row) == simple::check_row_into(row, &mut out[2])
+        && from_library(rows::check(cells)) == simple::check_row(row)
+        && out[0] == out[1]
+        && out[1] == out[2]
+}
+
+/// Whether the three agree on every line and row.
 pub fn agree(lines: &[&[u8]]) -> bool {
     lines.iter().all(|line| {
-        let mut out = [[0xA5; 64]; 3];
-        let same_line = from_library(wallcheck::check_line_into(line, &mut out[0]))
-            == fast::check_line_into(line, &mut out[1])
-            && fast::check_line(line) == simple::check_line_into(line, &mut out[2])
-            && from_library(wallcheck::check_line(line)) == simple::check_line(line);
-        let same_row = row_of(line).is_none_or(|(cells, row)| {
-            let result = fast::check_row(&row);
-            from_library(wallcheck::check_row(cells)) == result && simple::check_row(&row) == result
-        });
-        same_line && same_row && out[0] == out[1] && out[1] == out[2]
+        agree_on_line(line) && row_of(line).is_none_or(|(cells, row)| agree_on_row(&cells, &row))
     })
 }
 
