@@ -1,7 +1,7 @@
 /* Simplified check of unreinforced masonry walls (EN 1996-3 with its German annex). MANUAL.md has the rules.
  *
- * Version 3. A change of a struct or of a function's arguments raises the first number of the version and of the
- * shared library's name (libwallcheck.so.3); a changed result or a new function raises the second number.
+ * Version 4. A change of a struct or of a function's arguments raises the first number of the version and of the
+ * shared library's name (libwallcheck.so.4); a changed result or a new function raises the second number.
  *
  * The functions keep no state and allocate nothing: any number of threads may call them at once. The caller owns
  * every buffer; the library reads or writes it during the call only and keeps no pointer to it. A null pointer is
@@ -38,28 +38,31 @@ typedef struct {
     int64_t spare;           /* resistance - load */
 } wallcheck_result;
 
-/* A worksheet row: a storey wall in cells, the 17 numbers of its line in the line's order. Each cell must be exactly a
+/* A worksheet row: a storey wall in cells, the 19 numbers of its line in the line's order. Each cell must be exactly a
  * whole number in its range (negative zero counts as 0); a fraction, an infinity, a NaN and every other number is
  * refusal 2. In brackets: the letter of the formulas. */
 typedef struct {
-    double usage;     /* 1 inner, 2 single-leaf outer, 3 bearing leaf or party wall, 4 garage outer */
-    double thickness; /* (t) 1..1000 */
-    double height;    /* (h) clear height, 1..20000 */
-    double length;    /* (w) wall length, 1..20000 */
-    double held;      /* 2, 3 or 4 sides held */
-    double distance;  /* (c) two sides: 0; three: distance of the free edge, 1..30000; four: spacing of the holding
-                       * walls, 1..30000 */
-    double support;   /* 1 intermediate, 2 end under a floor, 3 end under a roof, 4 end with centring strip */
-    double span;      /* (L) span of the floor, 1..20000 */
-    double bearing;   /* (a) bearing depth, 1..thickness */
-    double strength;  /* (F) in hundredths of N/mm2, 1..5000 */
-    double bonded;    /* 0 or 1 */
-    double dead;      /* (G) dead load, 1..10000000 */
-    double imposed;   /* (Q) imposed load, 0..10000000 */
-    double floorload; /* (q) imposed floor load in N/m2, 0..100000 */
-    double building;  /* (H) building height, 1..200000 */
-    double storeys;   /* (n) full storeys, 1..20 */
-    double otherspan; /* (M) the other span of a slab that spans both ways, 1..20000; 0 for a one-way slab */
+    double usage;           /* 1 inner, 2 single-leaf outer, 3 bearing leaf or party wall, 4 garage outer */
+    double thickness;       /* (t) 1..1000 */
+    double height;          /* (h) clear height, 1..20000 */
+    double length;          /* (w) wall length, 1..20000 */
+    double held;            /* 2, 3 or 4 sides held */
+    double distance;        /* (c) two sides: 0; three: distance of the free edge, 1..30000; four: spacing of the
+                             * holding walls, 1..30000 */
+    double support;         /* 1 intermediate, 2 end under a floor, 3 end under a roof, 4 end with centring strip */
+    double span;            /* (L) span of the floor, 1..20000 */
+    double bearing;         /* (a) bearing depth, 1..thickness */
+    double strength;        /* (F) in hundredths of N/mm2, 1..5000 */
+    double bonded;          /* 0 or 1 */
+    double dead;            /* (G) dead load, 1..10000000 */
+    double imposed;         /* (Q) imposed load, 0..10000000 */
+    double floorload;       /* (q) imposed floor load in N/m2, 0..100000 */
+    double building;        /* (H) building height, 1..200000 */
+    double storeys;         /* (n) full storeys, 1..20 */
+    double otherspan;       /* (M) the other span of a slab that spans both ways, 1..20000; 0 for a one-way slab */
+    double calciumsilicate; /* 1 calcium silicate masonry in normal or thin-bed mortar, else 0 */
+    double wind;            /* characteristic wind load in N/m2, 0..10000; it enters the height limit of calcium
+                             * silicate walls alone */
 } wallcheck_cells;
 
 /* The edition of the rules by which this library computes: a number to file with the results. 100 is the first edition;
@@ -67,7 +70,7 @@ typedef struct {
 uint64_t wallcheck_edition(void);
 
 /* The result of a line of `len` bytes, without an end-of-line byte:
- * S and 17 numbers for a storey wall, C and 10 numbers for a cellar wall. */
+ * S and 19 numbers for a storey wall, C and 10 numbers for a cellar wall. */
 wallcheck_result wallcheck_line(const uint8_t *line, size_t len);
 
 /* The same, and the result as text in `out`: its five numbers with one space between, a minus sign where negative,

@@ -23,9 +23,9 @@ def read_lines():
 
 
 def read_rows():
-    """The 17 cells and the result of each row."""
+    """The 19 cells and the result of each row."""
     for row, result in read('rows.txt').items():
         cells = list(map(float, row.split()))
-        if len(cells) != 17:
-            raise ValueError(f'{row} has not 17 cells')
+        if len(cells) != 19:
+            raise ValueError(f'{row} has not 19 cells')
         yield cells, result

@@ -1,6 +1,6 @@
 """Reads a schedule from standard input and prints what the schedule program must print for it.
 
-    python3 oracle/generate.py lines 20000 | python3 oracle/expected.py
+    python3 oracle/generate.py lines 25000 | python3 oracle/expected.py
 """
 
 import sys

@@ -3,10 +3,10 @@
     python3 oracle/generate.py lines N
         a schedule of N lines; the last one is not ended by byte 10, unless it is empty
     python3 oracle/generate.py rows N
-        N rows, one a line, each as 17 words of 16 hexadecimal digits: the bits of the cells in the line's order
+        N rows, one a line, each as 19 words of 16 hexadecimal digits: the bits of the cells in the line's order
 
 The same N gives the same lines, and a smaller N gives the first of them. Behind the edges, which are fewer than
-20000, come random lines and rows without end.
+25000, come random lines and rows without end.
 """
 
 import math
@@ -16,8 +16,8 @@ import sys
 from itertools import chain, islice
 
 from cases import read_lines
-from walls import (A, CELLAR_RANGES, CellarWall, K, STOREY_RANGES, StoreyWall, check, factor_r, line_of, load, need,
-                   row_of)
+from walls import (A, CELLAR_RANGES, CellarWall, K, STOREY_RANGES, StoreyWall, check, factor_r, greatest_height,
+                   line_of, load, need, row_of)
 
 LARGEST = 999999999
 S, C = A._replace, K._replace
@@ -38,6 +38,7 @@ STOREY_WALLS = [
     S(use=4, n=1), S(held=3, c=1500), S(held=4, c=3000), S(held=4, c=2000), S(support=2), S(support=3), S(support=4),
     S(t=240, a=240), S(t=240, a=175), S(use=2, t=365, a=245), S(t=365, a=365, h=5000), S(bonded=1), S(w=400),
     S(support=2, L=6000, M=12000), S(t=365, a=365, support=2, L=10000, M=5000),
+    S(h=3600, mark=1), S(use=2, h=3300, mark=1, wind=1250), S(use=3, t=240, a=240, h=3600, F=350, mark=1, wind=500),
 ]
 CELLAR_WALLS = [K, C(c=2500), C(c=3750), C(e=0), C(e=2500), C(bonded=1), C(t=200), C(h=2600, e=2600, c=3000)]
 
@@ -46,10 +47,10 @@ def storey_thresholds(wall):
     """The values at which a rule changes, for each number."""
     t, h, c, L, M = wall.t, wall.h, wall.c, wall.L, wall.M
     return StoreyWall(
-        use=(), t=THICKNESS_THRESHOLDS, h=(2750, 12 * t, c, 3 * c), w=(40000 // t, 100000 // t),
+        use=(), t=THICKNESS_THRESHOLDS, h=(2750, 3000, 3300, 3600, 12 * t, c, 3 * c), w=(40000 // t, 100000 // t),
         held=(), c=(h, h // 3, 15 * t, 30 * t, 2000, 4500), support=(), L=(4200, 6000, 9600, M // 2, M, 2 * M),
-        a=(100, t // 2, 9 * t // 20, 175, t), F=(180,), bonded=(), G=(), Q=(), q=(3000, 5000), H=(20000,), n=(1, 2, 3),
-        M=(L // 2, L, 2 * L, 6000))
+        a=(100, t // 2, 9 * t // 20, 175, t), F=(180, 350, 500, 1000), bonded=(), G=(), Q=(), q=(3000, 5000),
+        H=(20000,), n=(1, 2, 3), M=(L // 2, L, 2 * L, 6000), mark=(), wind=(1250,))
 
 
 def cellar_thresholds(wall):
@@ -102,6 +103,21 @@ def two_way_edges():
                     yield wall._replace(support=support, L=L, M=M)
 
 
+def calcium_silicate_edges():
+    """Use, thickness, strength, wind, mark and full bearing against the height limit: a wall as high as its limit (5000
+    where there is none), and one higher by 1 mm. On three sides, near the free edge, a thin bearing leaf is not refused
+    as 5."""
+    for use in (1, 2, 3, 4):
+        for t in (115, 149, 150, 174, 175, 199, 200, 239, 240, 299, 300, 301, 365):
+            for F in (349, 350, 499, 500, 999, 1000):
+                for wind in (1250, 1251):
+                    for mark, a in ((1, t), (0, t), (1, t - 1)) if F == 500 else ((1, t),):
+                        wall = S(use=use, t=t, held=3, c=1900, a=a, F=F, n=1, mark=mark, wind=wind)
+                        height = min(greatest_height(wall), 5000)
+                        yield wall._replace(h=height)
+                        yield wall._replace(h=height + 1)
+
+
 def slenderness_edges():
     """E = 270t, which only the length of two sides reaches."""
     for t in (240, 245, 250, 251, 300, 365, 600, 740):
@@ -142,6 +158,7 @@ def storey_edges():
     yield from area_edges()
     yield from holding_edges()
     yield from two_way_edges()
+    yield from calcium_silicate_edges()
     yield from slenderness_edges()
     yield from verdict_edges(STOREY_WALLS)
     yield from verdict_edges(islice(random_storey_walls(Numbers(1)), 200))
@@ -187,13 +204,14 @@ def moderate_storey(numbers):
     within, one_in = numbers.within, numbers.one_in
     t = within(115, 400) if one_in(3) else numbers.one_of((115, 150, 175, 200, 240, 300, 365))
     held, c = holding(numbers, t)
-    return StoreyWall(
+    wall = StoreyWall(
         use=numbers.one_of((1, 1, 1, 2, 3, 4)), t=t, h=within(1800, 3000 if one_in(5) else 2750),
         w=within(200, 1000) if one_in(4) else within(1000, 9000), held=held, c=c, support=within(1, 4),
         L=within(1000, 6100 if one_in(4) else 6000), a=within(t // 2, t) if one_in(3) else t,
         F=within(170, 1500), bonded=1 if one_in(5) else 0, G=within(1, 160000), Q=within(0, 90000),
         q=within(0, 5100 if one_in(5) else 3000), H=within(2500, 20100), n=1 if one_in(3) else within(1, 5),
-        M=0 if one_in(2) else within(1000, 12000))
+        M=0 if one_in(2) else within(1000, 12000), mark=within(0, 1), wind=within(0, 10000 if one_in(5) else 1300))
+    return wall._replace(h=within(2700, 3700)) if wall.mark == 1 and one_in(3) else wall
 
 
 def moderate_cellar(numbers):
@@ -346,7 +364,7 @@ def schedule_of(lines):
     return stream + b'\n' if stream.endswith(b'\n') else stream
 
 
-# ---- Rows: 17 words, the bits of the cells in order
+# ---- Rows: 19 words, the bits of the cells in order
 
 def bits(value):
     return struct.unpack('<Q', struct.pack('<d', value))[0]

@@ -6,8 +6,8 @@
 from math import inf, nan, nextafter
 
 from cases import read_lines, read_rows
-from walls import (A, K, StoreyWall, buckling_length, check, check_line, check_row, lent, line_of, need, refused,
-                   row_of, schedule, span_reduced, storey_resistance, text, whole_number)
+from walls import (A, K, StoreyWall, buckling_length, check, check_line, check_row, greatest_height, lent, line_of,
+                   need, refused, row_of, schedule, span_reduced, storey_resistance, text, whole_number)
 
 S, C = A._replace, K._replace
 
@@ -53,7 +53,35 @@ WORKED = [
     # Document 02, #101
     (S(support=2, L=6000, M=12000), (0, 19688, 216000, 352425, 136425)),
     (S(support=2, L=5999, M=12000), (0, 19688, 216000, 297582, 81582)),
+    # Document 02, #102
+    (S(use=2, h=3300, mark=1, wind=1250), (0, 24750, 216000, 312363, 96363)),
+    (S(use=2, h=3301, mark=1, wind=1250), (6, 0, 0, 0, 0)),
+    (S(h=3600, mark=1), (0, 27000, 216000, 291626, 75626)),
 ]
+
+# Document 02, #102, written out: the greatest clear heights with the mark and a = t, thickness by thickness, for these
+# strengths.
+STRENGTHS = (349, 350, 499, 500, 999, 1000)
+# Uses 2 to 4 with wind 1250
+OUTER = {
+    115: (2750, 2750, 2750, 2750, 2750, 2750),
+    149: (2750, 2750, 2750, 2750, 2750, 2750),
+    150: (2750, 2750, 2750, 2750, 2750, 2750),
+    174: (2750, 2750, 2750, 2750, 2750, 2750),
+    175: (2750, 3000, 3000, 3300, 3300, 3300),
+    199: (2750, 3000, 3000, 3300, 3300, 3300),
+    200: (2750, 3600, 3600, 3600, 3600, 3600),
+    239: (2750, 3600, 3600, 3600, 3600, 3600),
+    240: (2880, 3600, 3600, 3600, 3600, 3600),
+    299: (3588, 3600, 3600, 3600, 3600, 3600),
+    300: (3600, 3600, 3600, 3600, 3600, 3600),
+    301: (3612, 3612, 3612, 3612, 3612, 3612),
+    365: (4380, 4380, 4380, 4380, 4380, 4380),
+}
+# Use 1 with any wind
+INNER = {t: (2750, 3600, 3600, 3600, 3600, 3600) if t < 240 else (inf,) * 6 for t in OUTER}
+# Document 01's, for uses 2 to 4
+GENERAL = {t: (heights[0],) * 6 for t, heights in OUTER.items()}
 
 count = 0
 
@@ -92,14 +120,23 @@ def documents():
         agree(f'reduction with L={L}, M=9000', span_reduced(S(L=L, M=9000)), reduced)
     for L, M, support, number in [(9000, 6000, 1, 0), (9000, 6001, 1, 9), (6001, 0, 1, 9), (7000, 7000, 1, 9), (7000, 7000, 4, 0)]:
         agree(f'refusal 9 with L={L}, M={M}, support {support}', check(S(L=L, M=M, support=support)).refusal, number)
-    agree('a line without M', check_line(line_of(A)[:-2]), refused(1))
+    for use, wind, table in [(1, 1250, INNER), (1, 1251, INNER), *((use, 1250, OUTER) for use in (2, 3, 4)),
+                             *((use, 1251, GENERAL) for use in (2, 3, 4))]:
+        for t, heights in table.items():
+            for F, height in zip(STRENGTHS, heights):
+                wall = S(use=use, t=t, a=t, F=F, mark=1, wind=wind)
+                agree(f'height of {line_of(wall)}', greatest_height(wall), height)
+                for other in (wall._replace(mark=0), wall._replace(a=t - 1)):
+                    agree(f'height of {line_of(other)}', greatest_height(other), table[t][0])
+    for more in (b'', b' 0', b' 0 0', b' 0 0 0 0'):
+        agree('a line with too few or too many numbers', check_line(line_of(A)[:-6] + more), refused(1))
 
 
 def program():
     agree('no input', schedule(b''), b'')
     agree('empty lines', schedule(b'\n\n'), b'1 0 0 0 0\n' * 2)
-    agree('a line over 200 bytes', schedule(line_of(A) + b' ' * 137), b'1 0 0 0 0\n')
-    agree('longest line of the form', check_line(b'S' + b' 999999999' * 17), refused(2))
+    agree('a line over 200 bytes', schedule(line_of(A) + b' ' * 133), b'1 0 0 0 0\n')
+    agree('longest line of the form', check_line(b'S' + b' 999999999' * 19), refused(2))
 
 
 def rows():

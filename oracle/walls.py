@@ -7,18 +7,18 @@ document 01's order and with its letters, to be read beside it. Programs compare
 import re
 from collections import namedtuple
 from fractions import Fraction
-from math import ceil, floor, isfinite
+from math import ceil, floor, inf, isfinite
 
 # ---- The two lines
 
-StoreyWall = namedtuple('StoreyWall', 'use t h w held c support L a F bonded G Q q H n M')
+StoreyWall = namedtuple('StoreyWall', 'use t h w held c support L a F bonded G Q q H n M mark wind')
 CellarWall = namedtuple('CellarWall', 't h e c y F bonded G Q p')
 
 # Lowest and highest value of each number; what depends on another number stands in storey_in_range.
 STOREY_RANGES = StoreyWall(
     use=(1, 4), t=(1, 1000), h=(1, 20000), w=(1, 20000), held=(2, 4), c=(0, 30000), support=(1, 4),
     L=(1, 20000), a=(1, 1000), F=(1, 5000), bonded=(0, 1), G=(1, 10000000), Q=(0, 10000000),
-    q=(0, 100000), H=(1, 200000), n=(1, 20), M=(0, 20000))
+    q=(0, 100000), H=(1, 200000), n=(1, 20), M=(0, 20000), mark=(0, 1), wind=(0, 10000))
 CELLAR_RANGES = CellarWall(
     t=(1, 1000), h=(1, 20000), e=(0, 20000), c=(1, 30000), y=(1, 30000), F=(1, 5000), bonded=(0, 1),
     G=(1, 10000000), Q=(0, 10000000), p=(0, 100000))
@@ -136,12 +136,30 @@ def load(G, Q):
     return ceil(Fraction(135 * G + 150 * Q, 100))
 
 
-def above_height_limit(wall):
+def general_height(wall):
+    """Document 01's greatest clear height."""
     if wall.t < 240:
-        return wall.h > 2750
+        return 2750
+    return inf if wall.use == 1 else 12 * wall.t
+
+
+def calcium_silicate_height(wall):
+    """#102: the height that is named for the thickness and for F ≥ 350, or None. A thickness between two rows takes the
+    thinner row."""
     if wall.use == 1:
-        return False
-    return wall.h > 12 * wall.t
+        return 3600 if wall.t < 240 else None
+    rows = {115: 2750, 150: 2750, 175: 3300 if wall.F >= 500 else 3000, 200: 3600, 240: 3600, 300: 12 * wall.t}
+    reached = [row for row in rows if row <= wall.t]
+    return rows[max(reached)] if reached else None
+
+
+def greatest_height(wall):
+    """#102: the named height with the mark, a = t, F ≥ 350 and for uses other than 1 wind ≤ 1250; where none is named,
+    document 01's stays."""
+    named = None
+    if wall.mark == 1 and wall.a == wall.t and wall.F >= 350 and (wall.use == 1 or wall.wind <= 1250):
+        named = calcium_silicate_height(wall)
+    return general_height(wall) if named is None else named
 
 
 # ---- Cellar wall
@@ -170,7 +188,7 @@ def cellar_resistance(wall):
 
 Result = namedtuple('Result', 'refusal second load resistance spare')
 
-A = read_line(b'S 1 175 2625 5000 2 0 1 5000 175 500 0 60000 90000 2250 9000 3 0')
+A = read_line(b'S 1 175 2625 5000 2 0 1 5000 175 500 0 60000 90000 2250 9000 3 0 0 0')
 K = read_line(b'C 365 2500 2000 6000 20000 500 0 40000 10000 5000')
 
 
@@ -204,7 +222,7 @@ STOREY_REFUSALS = [
     (3, lambda wall: wall.t < 115),
     (4, lambda wall: wall.w * wall.t < 40000),
     (5, refused_use),
-    (6, above_height_limit),
+    (6, lambda wall: wall.h > greatest_height(wall)),
     (7, lambda wall: wall.q > 5000 or (wall.q > 3000 and wall.use != 1 and wall.t < 175)),
     (8, lambda wall: wall.H > 20000),
     (9, lambda wall: governing_span(wall) > 6000 and wall.support != 4),
@@ -296,7 +314,7 @@ def row_of(wall):
 
 
 def check_row(cells):
-    """The result of a row of 17 cells, the numbers of a line in its order: that of the line with the same numbers, and
+    """The result of a row of 19 cells, the numbers of a line in its order: that of the line with the same numbers, and
     refusal 2 where a cell is no whole number."""
     numbers = [whole_number(cell) for cell in cells]
     return refused(2) if None in numbers else check_storey(StoreyWall(*numbers))

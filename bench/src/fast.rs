@@ -3,7 +3,7 @@
 use crate::{filled, refused, CheckResult, Row, LONGEST_LINE, SHORTEST_BUFFER};
 use std::io::{self, Read, Write};
 
-const STOREY_NUMBERS: usize = 17;
+const STOREY_NUMBERS: usize = 19;
 const CELLAR_NUMBERS: usize = 10;
 
 /// Input and output are moved in pieces of this many bytes.
@@ -69,8 +69,8 @@ fn load(dead: u64, imposed: u64) -> u64 {
 
 #[inline(always)]
 fn storey_in_range(numbers: &[u64; STOREY_NUMBERS]) -> bool {
-    let [usage, t, h, w, held, c, support, span, a, f, bonded, dead, imposed, floor_load, building, storeys, other] =
-        *numbers;
+    let [usage, t, h, w, held, c, support, span, a, f, bonded, dead, imposed, ..] = *numbers;
+    let [.., floor_load, building, storeys, other, calcium_silicate, wind] = *numbers;
     // Without branches between the tests: nearly all lines pass all of them.
     within(usage, 1, 4)
         & within(t, 1, 1000)
@@ -90,6 +90,8 @@ fn storey_in_range(numbers: &[u64; STOREY_NUMBERS]) -> bool {
         & within(building, 1, 200_000)
         & within(storeys, 1, 20)
         & (other <= 20_000)
+        & (calcium_silicate <= 1)
+        & (wind <= 10_000)
 }
 
 /// The shorter of both spans, where there is another one.
@@ -109,11 +111,33 @@ fn support_span(span: u64, other: u64) -> u64 {
     governing_span(span, other) * if reduced { 17 } else { 20 }
 }
 
+/// The greatest clear height, `taller` for the heights of calcium silicate walls.
+#[inline(always)]
+fn height_limit(usage: u64, t: u64, f: u64, taller: bool) -> u64 {
+    if t >= 240 {
+        return match usage {
+            1 => u64::MAX,
+            _ if taller && t < 300 => 3600,
+            _ => 12 * t,
+        };
+    }
+    if !taller {
+        return 2750;
+    }
+    match usage {
+        1 => 3600,
+        _ if t >= 200 => 3600,
+        _ if t < 175 => 2750,
+        _ if f >= 500 => 3300,
+        _ => 3000,
+    }
+}
+
 /// The first of refusals 3 to 11 that applies, or 0.
 #[inline(always)]
 fn storey_limit(numbers: &[u64; STOREY_NUMBERS]) -> u64 {
-    let [usage, t, h, w, held, c, support, span, a, f, _, _, _, floor_load, building, storeys, other] =
-        *numbers;
+    let [usage, t, h, w, held, c, support, span, a, f, ..] = *numbers;
+    let [.., floor_load, building, storeys, other, calcium_silicate, wind] = *numbers;
     if t < 115 {
         return 3;
     }
@@ -131,8 +155,11 @@ fn storey_limit(numbers: &[u64; STOREY_NUMBERS]) -> u64 {
             return 5;
         }
     }
-    if h > 2750 && (t < 240 || (usage != 1 && h > 12 * t)) {
-        return 6;
+    if h > 2750 {
+        let taller = calcium_silicate == 1 && a == t && f >= 350 && (usage == 1 || wind <= 1250);
+        if h > height_limit(usage, t, f, taller) {
+            return 6;
+        }
     }
     if floor_load > 3000 && (floor_load > 5000 || (usage != 1 && t < 175)) {
         return 7;
@@ -186,8 +213,8 @@ fn check_storey(numbers: &[u64; STOREY_NUMBERS]) -> CheckResult {
     if limit != 0 {
         return refused(limit);
     }
-    let [_, t, h, w, held, c, support, span, a, f, bonded, dead, imposed, _, _, _, other] =
-        *numbers;
+    let [_, t, h, w, held, c, support, span, a, f, bonded, dead, imposed, ..] = *numbers;
+    let [.., other, _, _] = *numbers;
     let e = buckling_length(t, h, held, c, a);
     if e > 270 * t {
         return refused(12);

@@ -15,8 +15,8 @@ pub struct CheckResult {
     pub spare: i64,
 }
 
-/// A worksheet row: the 17 cells in the line's order.
-pub type Row = [f64; 17];
+/// A worksheet row: the 19 cells in the line's order.
+pub type Row = [f64; 19];
 
 /// A line over this many bytes is refusal 1.
 const LONGEST_LINE: usize = 200;

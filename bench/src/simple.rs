@@ -21,6 +21,8 @@ struct StoreyWall {
     building: u64,
     storeys: u64,
     other_span: u64,
+    calcium_silicate: u64,
+    wind: u64,
 }
 
 struct CellarWall {
@@ -50,7 +52,7 @@ fn number(word: &str) -> Option<u64> {
 }
 
 fn storey_wall(n: &[u64]) -> Option<StoreyWall> {
-    (n.len() == 17).then(|| StoreyWall {
+    (n.len() == 19).then(|| StoreyWall {
         usage: n[0],
         thickness: n[1],
         height: n[2],
@@ -68,6 +70,8 @@ fn storey_wall(n: &[u64]) -> Option<StoreyWall> {
         building: n[14],
         storeys: n[15],
         other_span: n[16],
+        calcium_silicate: n[17],
+        wind: n[18],
     })
 }
 
@@ -125,6 +129,8 @@ impl StoreyWall {
             && (1..=200_000).contains(&self.building)
             && (1..=20).contains(&self.storeys)
             && self.other_span <= 20_000
+            && self.calcium_silicate <= 1
+            && self.wind <= 10_000
     }
 
     fn use_refused(&self) -> bool {
@@ -139,7 +145,15 @@ impl StoreyWall {
     }
 
     fn height_limit(&self) -> u64 {
+        let taller = self.calcium_silicate == 1
+            && self.bearing == self.thickness
+            && self.strength >= 350
+            && (self.usage == 1 || self.wind <= 1250);
         match (self.usage, self.thickness) {
+            (1, ..=239) if taller => 3600,
+            (2.., 175..=199) if taller && self.strength >= 500 => 3300,
+            (2.., 175..=199) if taller => 3000,
+            (2.., 200..=299) if taller => 3600,
             (_, ..=239) => 2750,
             (1, _) => u64::MAX,
             (_, thickness) => 12 * thickness,

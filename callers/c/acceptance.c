@@ -10,12 +10,12 @@
 
 #include "wallcheck.h"
 
-enum { EDITION = 101, CELLS = 17 };
+enum { EDITION = 102, CELLS = 19 };
 
 _Static_assert(sizeof(wallcheck_result) == 40, "five numbers of eight bytes");
-_Static_assert(sizeof(wallcheck_cells) == CELLS * sizeof(double), "seventeen cells");
+_Static_assert(sizeof(wallcheck_cells) == CELLS * sizeof(double), "nineteen cells");
 _Static_assert(offsetof(wallcheck_cells, held) == 4 * sizeof(double), "held is the fifth");
-_Static_assert(offsetof(wallcheck_cells, otherspan) == 16 * sizeof(double), "the other span is the last");
+_Static_assert(offsetof(wallcheck_cells, wind) == 18 * sizeof(double), "the wind is the last");
 
 enum { GUARD = 16, LONGEST = 100, FILL = 0xA5 };
 static const size_t out_lengths[] = {0, 63, 64, LONGEST};
@@ -86,7 +86,7 @@ static void run_row(const char *line, wallcheck_cells cells, wallcheck_result ex
     }
 }
 
-/* The row of 17 numbers with a space before each but the first. */
+/* The row of 19 numbers with a space before each but the first. */
 static wallcheck_cells cells_of(const char *numbers)
 {
     double x[CELLS];

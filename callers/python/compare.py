@@ -16,9 +16,9 @@ import generate
 import walls
 from cases import read_lines, read_rows
 
-EDITION = 101
+EDITION = 102
 CELLS = ('usage thickness height length held distance support span bearing strength bonded dead imposed floorload '
-         'building storeys otherspan').split()
+         'building storeys otherspan calciumsilicate wind').split()
 GUARD = bytes(range(0xA0, 0xB0))
 FILL = 0xA5
 
@@ -67,11 +67,11 @@ def numbers_of(result):
 
 def cells_of(words):
     """The cells with these bits; a signalling NaN stays one."""
-    return Cells.from_buffer_copy(struct.pack('<17Q', *words))
+    return Cells.from_buffer_copy(struct.pack('<19Q', *words))
 
 
 def row_result(words):
-    return walls.check_row(struct.unpack('<17d', struct.pack('<17Q', *words)))
+    return walls.check_row(struct.unpack('<19d', struct.pack('<19Q', *words)))
 
 
 def lend(entry, arguments, length):

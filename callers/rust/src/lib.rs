@@ -11,7 +11,7 @@ pub struct CheckResult {
     pub spare: i64,
 }
 
-/// A worksheet row: the 17 numbers of a storey wall's line, in its order.
+/// A worksheet row: the 19 numbers of a storey wall's line, in its order.
 #[repr(C)]
 #[derive(Clone, Copy, Debug, Default)]
 pub struct Cells {
@@ -32,10 +32,12 @@ pub struct Cells {
     pub building: f64,
     pub storeys: f64,
     pub otherspan: f64,
+    pub calciumsilicate: f64,
+    pub wind: f64,
 }
 
-impl From<[f64; 17]> for Cells {
-    fn from(cells: [f64; 17]) -> Cells {
+impl From<[f64; 19]> for Cells {
+    fn from(cells: [f64; 19]) -> Cells {
         Cells {
             usage: cells[0],
             thickness: cells[1],
@@ -54,6 +56,8 @@ impl From<[f64; 17]> for Cells {
             building: cells[14],
             storeys: cells[15],
             otherspan: cells[16],
+            calciumsilicate: cells[17],
+            wind: cells[18],
         }
     }
 }

@@ -62,6 +62,8 @@ fn storey_wall(numbers: &[u64; StoreyWall::NUMBERS]) -> StoreyWall
         building: numbers[14],
         storeys: numbers[15],
         otherspan: numbers[16],
+        calciumsilicate: numbers[17],
+        wind: numbers[18],
     }
 }
 

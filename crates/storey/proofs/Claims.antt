@@ -1,4 +1,4 @@
--- Proofs of the claims of specs/Claims.antt.
+-- Proofs of claims of specs/Claims.antt; the others stand in Height.antt and Check.antt.
 use Prim.Native.Nat.{_*_, min}
 use mathlib.Core.Bool.{and-comm}
 use mathlib.Core.Path.{_≡_, refl}
@@ -13,11 +13,25 @@ use Rattle.basis.proofs.Refusal.{NoneApplies-split}
 use Rattle.storey.specs.declared.StoreyWall.{StoreyWall}
 use Rattle.storey.specs.Span.{governingSpan, spanReduced, supportSpan}
 use Rattle.storey.specs.BucklingLength.{exactLength, bucklingLength}
-use Rattle.storey.specs.Resistance.{exactResistance, resistance}
-use Rattle.storey.specs.Load.{load}
-use Rattle.storey.specs.Limits.{limitsUpTo11, slendernessLimit, tooSlender}
+use Rattle.storey.specs.Resistance.{reductionFifths, exactResistance, resistance}
+use Rattle.storey.specs.Load.{exactLoad, load}
+use Rattle.storey.specs.Height.{calciumSilicateApplies, heightLimit}
+use Rattle.storey.specs.Limits.{
+  limitsUpTo11,
+  slendernessLimit,
+  tooThin,
+  areaTooSmall,
+  closelyHeld,
+  unfitForUse,
+  floorLoadTooGreat,
+  buildingTooHigh,
+  spanTooLong,
+  bearingTooShallow,
+  tooWeak,
+  tooSlender,
+}
 use Rattle.storey.specs.Check.{parts, check}
-use Rattle.storey.specs.Claims.{OneWaySpans, SpansExchange, LengthRoundedUp, ResistanceRoundedDown, AcceptedExactly}
+use Rattle.storey.specs.Claims.{OneWaySpans, SpansExchange, UnmarkedHeight, OnlyHeightChanges, LengthRoundedUp, ResistanceRoundedDown, AcceptedExactly}
 use Rattle.storey.proofs.BucklingLength.{exact-length-den}
 use Rattle.storey.proofs.Load.{load-most}
 use Rattle.storey.proofs.Range.{in-ranges}
@@ -33,6 +47,15 @@ unfolding governingSpan spanReduced supportSpan
 spans-exchange L M one other =
     let shorter : min L M ≡ min M L = omega arith in
     rw (lt-ltb 0 L one, lt-ltb 0 M other, shorter, and-comm (leb M (2 * L)) (leb L (2 * M))) (refl, refl)
+
+pub unmarked-height : UnmarkedHeight
+unfolding calciumSilicateApplies heightLimit
+unmarked-height w unmarked = rw unmarked refl
+
+-- No other definition looks at mark or wind, so each pair is one term.
+pub only-height-changes : OnlyHeightChanges
+unfolding exactLength bucklingLength reductionFifths exactResistance resistance exactLoad load tooThin areaTooSmall closelyHeld unfitForUse floorLoadTooGreat buildingTooHigh spanTooLong bearingTooShallow tooWeak tooSlender
+only-height-changes w mark wind = (refl, refl, refl, refl, refl)
 
 pub length-rounded-up : LengthRoundedUp
 unfolding bucklingLength

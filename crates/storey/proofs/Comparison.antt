@@ -19,13 +19,13 @@ use Rattle.storey.specs.BucklingLength.{bearingSuffices, factor, twoSide
 use Rattle.storey.specs.Span.{governingSpan, supportSpan}
 use Rattle.storey.specs.Resistance.{atMidHeight, supportFactor, supportFactorOf, atSupport, reductionFifths, reduction, unreduced, exactResistance, resistance}
 use Rattle.storey.specs.Load.{load}
+use Rattle.storey.specs.Height.{NoLower, generalHeight, calciumSilicateApplies, heightLimit}
 use Rattle.storey.specs.Limits.{
   limits,
   tooThin,
   areaTooSmall,
   closelyHeld,
   unfitForUse,
-  heightLimit,
   tooHigh,
   floorLoadTooGreat,
   buildingTooHigh,
@@ -36,7 +36,7 @@ use Rattle.storey.specs.Limits.{
 }
 use Rattle.storey.specs.Comparison.{withEightOf, NoWorse}
 use Rattle.storey.proofs.Range.{in-ranges, distance-bounds}
-use Rattle.storey.proofs.Limits.{no-lower-refl, above-falls}
+use Rattle.storey.proofs.Height.{no-lower-refl, above-falls, calcium-silicate-no-lower, calcium-silicate-grows}
 use Rattle.storey.proofs.Load.{load-grows}
 use Rattle.storey.proofs.BucklingLength.{thickness-factor-most, factor-most, sum-of-squares, held-further, exact-length-den}
 use Rattle.storey.proofs.Span.{support-span-den, governing-falls, support-span-falls}
@@ -219,9 +219,39 @@ module _ (first second : StoreyWall) (pair : NoWorse first second) (passed : inR
 
   -- Each limit that the first keeps, the second keeps.
 
+  -- A bearing that was the whole thickness stays so, and greater strength keeps #102's heights.
+  calcium-silicate-kept : Implies (calciumSilicateApplies first) (calciumSilicateApplies changed)
+  unfolding calciumSilicateApplies
+  calcium-silicate-kept =
+      let t = first .thickness in
+      let a = first .bearing in
+      let a' = second .bearing in
+      let F = first .strength in
+      let F' = second .strength in
+      let mark = eqb (first .calciumsilicate) 1 in
+      let within-wind = eqb (first .usage) 1 || leb (first .wind) 1250 in
+      let within = in-ranges changed changed-in-range in
+      implies-and (mark && eqb a t && leb 350 F) within-wind (mark && eqb a' t && leb 350 F') within-wind
+      (implies-and (mark && eqb a t) (leb 350 F) (mark && eqb a' t) (leb 350 F')
+      (implies-and mark (eqb a t) mark (eqb a' t) (λ is. is)
+      (λ full. eq-eqb a' t (omega (arith, eqb-true a t full, pair .bearing))))
+      (λ strong. le-leb 350 F' (omega (arith, leb-true 350 F strong, pair .strength))))
+      (λ is. is)
+
+  limit-kept : NoLower (heightLimit first) (heightLimit changed)
+  unfolding heightLimit
+  limit-kept =
+      let usage = first .usage in
+      let t = first .thickness in
+      cond-pair NoLower (calciumSilicateApplies first) (calciumSilicateApplies changed)
+      (λ _ _. calcium-silicate-grows usage t (first .strength) (second .strength) (pair .strength))
+      (λ is isnt. absurd (true≢false (sym (calcium-silicate-kept is) ∙ isnt)))
+      (λ _ _. calcium-silicate-no-lower usage t (second .strength))
+      (λ _ _. no-lower-refl (generalHeight usage t))
+
   high-kept : Implies (tooHigh changed) (tooHigh first)
-  unfolding tooHigh heightLimit
-  high-kept = above-falls (heightLimit first) (heightLimit changed) (first .height) (second .height) (no-lower-refl (heightLimit first)) (pair .height)
+  unfolding tooHigh
+  high-kept = above-falls (heightLimit first) (heightLimit changed) (first .height) (second .height) limit-kept (pair .height)
 
   floor-load-kept : Implies (floorLoadTooGreat changed) (floorLoadTooGreat first)
   unfolding floorLoadTooGreat

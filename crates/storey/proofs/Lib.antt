@@ -4,7 +4,7 @@ pub mod Span
 pub mod BucklingLength
 pub mod Resistance
 pub mod Load
-pub mod Limits
+pub mod Height
 pub mod Check
 pub mod Claims
 pub mod Comparison

@@ -1,22 +1,26 @@
--- Demand 2 for a storey wall, as claims about the definitions; their proofs stand in proofs/Claims.antt. What holds of any check stands in
--- basis, what holds of both kinds in walls.
+-- Demand 2 for a storey wall, as claims about the definitions; their proofs stand in proofs/Claims.antt, Height.antt and Check.antt. What holds of any
+-- check stands in basis, what holds of both kinds in walls.
 use Prim.Native.Nat.{ℕ, _≤_, _<_}
-use mathlib.Core.Bool.{true}
+use mathlib.Core.Bool.{Bool, true, cond}
+use mathlib.Core.List.{map}
 use mathlib.Core.Logic.{_↔_}
 use mathlib.Core.Path.{_≡_}
+use lib.Dec.{eqb}
 use Rattle.basis.specs.Fraction.{whole, LeastAtOrAbove, LessThanOneBelow}
 use Rattle.basis.specs.Refusal.{firstOr, NoneApplies}
 use Rattle.basis.specs.Result.{refusedWith, Accepted}
 use Rattle.basis.specs.Check.{reported}
 use Rattle.storey.specs.declared.StoreyWall.{StoreyWall}
 use Rattle.storey.specs.declared.Assessment.the-variants.{Within}
+use Rattle.storey.specs.Record.{withCalciumSilicate, withWind}
 use Rattle.storey.specs.Range.{inRange}
 use Rattle.storey.specs.Span.{governingSpan, supportSpan}
 use Rattle.storey.specs.BucklingLength.{exactLength, bucklingLength}
 use Rattle.storey.specs.Resistance.{exactResistance, resistance}
 use Rattle.storey.specs.Load.{load}
-use Rattle.storey.specs.Limits.{slendernessLimit, limits}
-use Rattle.storey.specs.Check.{parts, check, assessment, behind, Assessed}
+use Rattle.storey.specs.Height.{NoLower, generalHeight, calciumSilicateHeight, heightLimit}
+use Rattle.storey.specs.Limits.{tooHigh, slendernessLimit, limits}
+use Rattle.storey.specs.Check.{measures, parts, check, assessment, behind, Assessed}
 
 -- Document 02, #101: "0 for a one-way slab". Refusal 9 and m then take L, as document 01 has it.
 abbrev pub OneWaySpans : Type 0
@@ -25,6 +29,30 @@ OneWaySpans = (L : ℕ) → (governingSpan L 0 ≡ L) × (supportSpan L 0 ≡ wh
 -- #101 speaks of both spans alike: which of them is entered as L makes no difference.
 abbrev pub SpansExchange : Type 0
 SpansExchange = (L M : ℕ) → 0 < L → 0 < M → (governingSpan L M ≡ governingSpan M L) × (supportSpan L M ≡ supportSpan M L)
+
+-- Document 02, #102: without the mark the heights are document 01's, whatever the wind.
+abbrev pub UnmarkedHeight : Type 0
+UnmarkedHeight = (w : StoreyWall) → w .calciumsilicate ≡ 0 → heightLimit w ≡ generalHeight (w .usage) (w .thickness)
+
+-- #102, "greater strength still never hurts acceptance": the height of a calcium silicate wall is never below document 01's,
+abbrev pub CalciumSilicateNoLower : Type 0
+CalciumSilicateNoLower = (usage t F : ℕ) → NoLower (generalHeight usage t) (calciumSilicateHeight usage t F)
+
+-- .. and it never falls as F grows.
+abbrev pub CalciumSilicateGrows : Type 0
+CalciumSilicateGrows = (usage t F F' : ℕ) → F ≤ F' → NoLower (calciumSilicateHeight usage t F) (calciumSilicateHeight usage t F')
+
+-- #102: "Of refusals 3 to 13 only 6 changes meaning." With another mark and wind a record has the same limits but for the test of 6, the same test of 13, and
+-- the same E, N and resistance.
+abbrev pub OnlyHeightChanges : Type 0
+OnlyHeightChanges =
+    (w : StoreyWall) (mark wind : ℕ) →
+    let other = withWind (withCalciumSilicate w mark) wind in
+    (limits other ≡ map (λ (limit : ℕ × Bool). cond (eqb (limit .0) 6) (6, tooHigh other) limit) (limits w))
+    × (measures other ≡ measures w)
+    × (bucklingLength other ≡ bucklingLength w)
+    × (load other ≡ load w)
+    × (resistance other ≡ resistance w)
 
 -- E is the exact buckling length rounded up.
 abbrev pub LengthRoundedUp : Type 0

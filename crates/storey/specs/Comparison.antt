@@ -29,7 +29,7 @@ pub record NoWorse (first second : StoreyWall) : Type 0 where
   pub height : second .height ≤ first .height
   pub strength : first .strength ≤ second .strength
   pub bearing : first .bearing ≤ second .bearing
-  -- "all else equal": "every other number of the record", M among them
+  -- "all else equal": "every other number of the record", M of #101 and mark and wind of #102 among them
   pub all-else : withEightOf second first ≡ second
   pub spans : ComparableSpans (first .span) (second .span) (first .otherspan)
   pub three-sides : first .held ≡ 3 → 3 * first .distance < first .height → (first .height ≡ second .height) × (first .bearing ≡ second .bearing)

@@ -1,9 +1,10 @@
--- Document 01, "Heights" and the table of refusals, 3 to 12.
+-- Document 01, the table of refusals, 3 to 12.
 use Prim.Native.Nat.{ℕ, _*_}
-use mathlib.Core.Bool.{Bool, false, cond, not, _&&_, _||_}
+use mathlib.Core.Bool.{Bool, not, _&&_, _||_}
 use mathlib.Core.List.{List, [], _∷_, _++_}
 use lib.Dec.{leb, ltb, eqb}
 use Rattle.storey.specs.declared.StoreyWall.{StoreyWall}
+use Rattle.storey.specs.Height.{heightLimit, above}
 use Rattle.storey.specs.Span.{governingSpan}
 use Rattle.storey.specs.BucklingLength.{bucklingLength}
 
@@ -25,22 +26,6 @@ unfitForUse w =
     (eqb (w .usage) 2 && ltb (w .thickness) 150)
     || (eqb (w .usage) 4 && ltb 1 (w .storeys))
     || (eqb (w .usage) 3 && ltb (w .thickness) 150 && (ltb 2 (w .storeys) || not (closelyHeld w)))
-
--- A greatest clear height, or none.
-pub data HeightLimit : Type 0 where
-  unlimited : HeightLimit
-  atMost : ℕ → HeightLimit
-
--- "Heights: use 1 with t < 240: 2750; use 1 with t ≥ 240: no limit; other uses with t < 240: 2750; with t ≥ 240: 12t."
-unfoldable pub heightLimit : StoreyWall → HeightLimit
-heightLimit w =
-    cond (eqb (w .usage) 1)
-    (cond (ltb (w .thickness) 240) (atMost 2750) unlimited)
-    (cond (ltb (w .thickness) 240) (atMost 2750) (atMost (12 * w .thickness)))
-
-abbrev pub above : HeightLimit → (h : ℕ) → Bool
-above unlimited h = false
-above (atMost n) h = ltb n h
 
 -- 6: "h above its limit"
 unfoldable pub tooHigh : StoreyWall → Bool

@@ -1,4 +1,4 @@
--- Document 01, "The two lines": "`S` and 16 numbers, with range". Document 02, #101: "a seventeenth number, M".
+-- Document 01, "The two lines": "`S` and 16 numbers, with range". Document 02: M of #101, mark and wind of #102.
 use mathlib.Core.Bool.{Bool, cond}
 use mathlib.Core.List.{List, [], _∷_}
 use lib.Dec.{eqb}
@@ -28,6 +28,9 @@ ranges w =
     ∷ w .storeys from 1 to 20
     -- #101: "M, the other span, 0 for a one-way slab, else 1..20000"
     ∷ w .otherspan from 0 to 20000
+    -- #102: "mark 1 for calcium silicate in normal or thin-bed mortar, else 0, and characteristic wind 0..10000 N/m²"
+    ∷ w .calciumsilicate from 0 to 1
+    ∷ w .wind from 0 to 10000
     ∷ []
 
 unfoldable pub inRange : StoreyWall → Bool

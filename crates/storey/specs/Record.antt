@@ -1,5 +1,5 @@
--- "A record is the numbers of one line": those of a storey record in document 01's order, with M of document 02, #101, as "a seventeenth number",
--- and the record of such a list.
+-- "A record is the numbers of one line": those of a storey record in document 01's order, then those of document 02: M of #101 as "a seventeenth number",
+-- mark and wind of #102, "Two more numbers end the record"; and the record of such a list.
 -- Whatever reads, compares or changes a record by its numbers stands on this page.
 use Prim.Native.Nat.{ℕ}
 use mathlib.Core.List.{List, [], _∷_}
@@ -10,11 +10,11 @@ abbrev pub numbers : StoreyWall → List ℕ
 numbers w =
     w .usage ∷ w .thickness ∷ w .height ∷ w .length ∷ w .held ∷ w .distance ∷ w .support ∷ w .span
     ∷ w .bearing ∷ w .strength ∷ w .bonded ∷ w .dead ∷ w .imposed ∷ w .floorload ∷ w .building ∷ w .storeys
-    ∷ w .otherspan ∷ []
+    ∷ w .otherspan ∷ w .calciumsilicate ∷ w .wind ∷ []
 
 -- How many they are.
 abbrev pub count : ℕ
-count = 17
+count = 19
 
 -- The record with these numbers; 0 stands for one that the list has not.
 abbrev pub storeyOf : List ℕ → StoreyWall
@@ -37,6 +37,8 @@ storeyOf ns =
       building = getD ns 14 0;
       storeys = getD ns 15 0;
       otherspan = getD ns 16 0;
+      calciumsilicate = getD ns 17 0;
+      wind = getD ns 18 0;
     }
 
 -- The record with another number in one place; places count from 0.
@@ -44,6 +46,9 @@ abbrev pub withNumber : (place : ℕ) → StoreyWall → ℕ → StoreyWall
 withNumber place w n = storeyOf (set (numbers w) place n)
 
 -- The record with another quantity.
+
+abbrev pub withUsage : StoreyWall → (usage : ℕ) → StoreyWall
+withUsage = withNumber 0
 
 abbrev pub withThickness : StoreyWall → (t : ℕ) → StoreyWall
 withThickness = withNumber 1
@@ -86,3 +91,9 @@ withBuilding = withNumber 14
 
 abbrev pub withOtherSpan : StoreyWall → (M : ℕ) → StoreyWall
 withOtherSpan = withNumber 16
+
+abbrev pub withCalciumSilicate : StoreyWall → (mark : ℕ) → StoreyWall
+withCalciumSilicate = withNumber 17
+
+abbrev pub withWind : StoreyWall → (wind : ℕ) → StoreyWall
+withWind = withNumber 18

@@ -1,14 +1,15 @@
 // The storey wall of document 01: its record; its ranges, limits, factors and check stand in one module for each heading;
-// `spans` is document 02, #101.
+// `spans` is document 02, #101, and `heights` has #102 beside document 01.
 mod buckling_length;
 mod design_load;
 mod design_resistance;
+mod heights;
 mod ranges;
 mod refusals;
 mod result;
 mod spans;
 
-// The numbers of an `S` record, in document 01's order, then M of document 02, #101. Lengths are in mm.
+// The numbers of an `S` record, in document 01's order, then those of document 02, #101 and #102. Lengths are in mm.
 pub struct StoreyWall {
     // use: 1 inner, 2 single-leaf outer, 3 bearing leaf or party wall, 4 garage outer
     pub usage: u64,
@@ -44,11 +45,15 @@ pub struct StoreyWall {
     pub storeys: u64,
     // M, the other span, 0 for a one-way slab
     pub otherspan: u64,
+    // mark: 1 for calcium silicate in normal or thin-bed mortar, else 0
+    pub calciumsilicate: u64,
+    // characteristic wind load in N/m²
+    pub wind: u64,
 }
 
 impl StoreyWall {
     // How many numbers the record has.
-    pub const NUMBERS: usize = 17;
+    pub const NUMBERS: usize = 19;
     // What `held` is.
     pub const TWO_SIDES: u64 = 2;
 

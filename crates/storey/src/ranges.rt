@@ -1,4 +1,4 @@
-// Ranges: document 01, "The two lines", and document 02, #101.
+// Ranges: document 01, "The two lines", and document 02, #101 and #102.
 ghost use mathlib.Core.Path.{_≡_};
 ghost use Rattle.storey.specs.Range.{inRange};
 use crate::StoreyWall;
@@ -39,6 +39,10 @@ impl StoreyWall {
 
     const RANGE_GREATEST_OTHER_SPAN: u64 = 20000;
 
+    const RANGE_GREATEST_CALCIUM_SILICATE: u64 = 1;
+
+    const RANGE_GREATEST_WIND: u64 = 10000;
+
     // Whether every number of the record is in its range: both ends of each, in the order of the definition's list.
     pub fn in_range(self) -> bool
         ensures { λ inside. ⌜ inside ≡ inRange self ⌝ }
@@ -64,5 +68,8 @@ impl StoreyWall {
             & ((1 <= self.building) & (self.building <= StoreyWall::RANGE_GREATEST_BUILDING))
             & ((1 <= self.storeys) & (self.storeys <= StoreyWall::RANGE_GREATEST_STOREYS))
             & ((0 <= self.otherspan) & (self.otherspan <= StoreyWall::RANGE_GREATEST_OTHER_SPAN))
+            & ((0 <= self.calciumsilicate)
+                & (self.calciumsilicate <= StoreyWall::RANGE_GREATEST_CALCIUM_SILICATE))
+            & ((0 <= self.wind) & (self.wind <= StoreyWall::RANGE_GREATEST_WIND))
     }
 }

@@ -1,13 +1,13 @@
-// Limits: document 01, "Heights" and refusals 3 to 11 of its table. Refusal 12, the slenderness, stands with the check.
+// Limits: document 01, refusals 3 to 11 of its table; the heights of 6 have a module of their own. Refusal 12, the slenderness, stands with the check.
 ghost use mathlib.Core.Bool.{true};
 ghost use mathlib.Core.Path.{_≡_};
 ghost use Rattle.basis.specs.Refusal.{firstOf};
 ghost use Rattle.storey.specs.Range.{inRange};
-ghost use Rattle.storey.specs.Limits.{unfitForUse, tooHigh, floorLoadTooGreat, bearingTooShallow, limitsUpTo11};
+ghost use Rattle.storey.specs.Limits.{unfitForUse, floorLoadTooGreat, bearingTooShallow, limitsUpTo11};
 use crate::StoreyWall;
 
 impl StoreyWall {
-    const INNER_USE: u64 = 1;
+    pub(crate) const INNER_USE: u64 = 1;
 
     const OUTER_USE: u64 = 2;
 
@@ -30,12 +30,6 @@ impl StoreyWall {
     const LIMIT_THIN_LEAF_SPACING: u64 = 4500;
 
     const LIMIT_THIN_LEAF_EDGE: u64 = 2000;
-    // 6: LIMIT_HEIGHT below this thickness; from it on LIMIT_HEIGHT_THICKNESSES, for an inner wall none.
-    const LIMIT_HEIGHT_THICKNESS: u64 = 240;
-
-    const LIMIT_HEIGHT: u64 = 2750;
-
-    const LIMIT_HEIGHT_THICKNESSES: u64 = 12;
     // 7: the second for walls other than inner ones below LIMIT_FLOOR_LOAD_THICKNESS.
     const LIMIT_FLOOR_LOAD: u64 = 5000;
 
@@ -75,17 +69,6 @@ impl StoreyWall {
             | ((self.usage == StoreyWall::BEARING_LEAF_USE)
                 & (self.thickness < StoreyWall::LIMIT_LEAST_LEAF_THICKNESS)
                 & ((StoreyWall::LIMIT_THIN_LEAF_STOREYS < self.storeys) | !closely_held))
-    }
-
-    fn too_high(self) -> bool
-        requires { ⌜ inRange self ≡ true ⌝ }
-        ensures { λ applies. ⌜ applies ≡ tooHigh self ⌝ }
-    {
-        let thin = self.thickness < StoreyWall::LIMIT_HEIGHT_THICKNESS;
-        (thin & (StoreyWall::LIMIT_HEIGHT < self.height))
-            | (!thin
-                & (self.usage != StoreyWall::INNER_USE)
-                & (StoreyWall::LIMIT_HEIGHT_THICKNESSES * self.thickness < self.height))
     }
 
     fn floor_load_too_great(self) -> bool

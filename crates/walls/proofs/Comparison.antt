@@ -7,7 +7,9 @@
 -- A shorter L never lengthens the governing span. Nor does it lengthen the span in m as long as both records take the same part of the governing
 -- one; a shorter L can lose the reduction to 0.85 of it, hence the clause on L.
 -- A shorter length, a deeper bearing, a greater strength and a shorter span in m each never lower the resistance; lighter loads never raise the load.
--- Each limit compares one of these quantities, or the length, with a bound that both records share. So whatever the first keeps, the second keeps.
+-- Each limit compares one of these quantities, or the length, with a bound that both records share, but for the height limit, which can only rise:
+-- a calcium silicate wall's is never below document 01's and never falls as the strength grows, and a bearing over the whole thickness stays so.
+-- So whatever the first keeps, the second keeps.
 --
 -- Cellar. Resistance, required load and limits do not look at G and Q. The load grows with both, so the high end bounds it by the resistance;
 -- the required load is reached by the low end's G, which is the least.

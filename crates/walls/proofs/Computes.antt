@@ -10,6 +10,7 @@ use Rattle.storey.specs.BucklingLength as sb
 use Rattle.storey.specs.Span as sp
 use Rattle.storey.specs.Resistance as ss
 use Rattle.storey.specs.Load as sl
+use Rattle.storey.specs.Height as sh
 use Rattle.storey.specs.Limits as sm
 use Rattle.cellar.specs.Range as cr
 use Rattle.cellar.specs.RequiredLoad as cq
@@ -32,7 +33,7 @@ unfolding sp.governingSpan sp.spanReduced sp.supportSpan ss.atMidHeight ss.suppo
 resistances w = check w
 
 unfoldable pub storey-limits : Wall → CheckResult
-unfolding sm.tooThin sm.areaTooSmall sm.closelyHeld sm.unfitForUse sm.heightLimit sm.tooHigh sm.floorLoadTooGreat sm.buildingTooHigh sm.spanTooLong sm.bearingTooShallow sm.tooWeak sm.tooSlender
+unfolding sm.tooThin sm.areaTooSmall sm.closelyHeld sm.unfitForUse sh.generalHeight sh.calciumSilicateHeight sh.calciumSilicateApplies sh.heightLimit sm.tooHigh sm.floorLoadTooGreat sm.buildingTooHigh sm.spanTooLong sm.bearingTooShallow sm.tooWeak sm.tooSlender
 storey-limits w = check w
 
 unfoldable pub cellars : Wall → CheckResult

@@ -5,4 +5,5 @@ pub mod Computes
 pub mod MarkedFigures
 pub mod FalseReadings
 pub mod TwoWayFloors
+pub mod CalciumSilicate
 pub mod OutOfRange

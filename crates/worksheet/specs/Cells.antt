@@ -24,6 +24,8 @@ cellEntries x =
     ∷ cell (x .building)
     ∷ cell (x .storeys)
     ∷ cell (x .otherspan)
+    ∷ cell (x .calciumsilicate)
+    ∷ cell (x .wind)
     ∷ []
 
 -- The record whose numbers are those of the cells.

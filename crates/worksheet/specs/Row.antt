@@ -1,6 +1,6 @@
 -- "A worksheet row is an `S` record whose quantities are f64 cells, all 14 numbers other than held and c."
 -- "Its holding is given as two sides, three sides with the edge distance, or four sides with the spacing, the distance being a cell too."
--- Document 02, #101, for M: "the worksheet row gains the same cell".
+-- Document 02: "the worksheet row gains the same cell" for M of #101, and "both as cells", mark and wind, of #102.
 use Prim.Native.Nat.{ℕ}
 use mathlib.Core.List.{List, [], _∷_}
 use Rattle.storey.specs.declared.StoreyWall.{StoreyWall}
@@ -41,6 +41,8 @@ entries r =
     ∷ cell (r .building)
     ∷ cell (r .storeys)
     ∷ cell (r .otherspan)
+    ∷ cell (r .calciumsilicate)
+    ∷ cell (r .wind)
     ∷ []
 
 -- The record that a row turns into.

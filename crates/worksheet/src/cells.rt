@@ -24,6 +24,8 @@ pub struct Cells {
     pub building: f64,
     pub storeys: f64,
     pub otherspan: f64,
+    pub calciumsilicate: f64,
+    pub wind: f64,
 }
 
 impl Cells {
@@ -50,6 +52,8 @@ impl Cells {
             building: cell::number(self.building),
             storeys: cell::number(self.storeys),
             otherspan: cell::number(self.otherspan),
+            calciumsilicate: cell::number(self.calciumsilicate),
+            wind: cell::number(self.wind),
         }
     }
 }

@@ -35,6 +35,8 @@ pub struct Row {
     pub building: f64,
     pub storeys: f64,
     pub otherspan: f64,
+    pub calciumsilicate: f64,
+    pub wind: f64,
 }
 
 impl Holding {
@@ -92,6 +94,8 @@ impl Row {
             building: cell::number(self.building),
             storeys: cell::number(self.storeys),
             otherspan: cell::number(self.otherspan),
+            calciumsilicate: cell::number(self.calciumsilicate),
+            wind: cell::number(self.wind),
         }
     }
 }

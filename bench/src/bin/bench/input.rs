@@ -66,6 +66,11 @@ fn storey_numbers(random: &mut Random) -> Vec<u64> {
     } else {
         random.within(1000, 9000)
     });
+    let calcium_silicate = random.within(0, 1);
+    numbers.extend([calcium_silicate, random.within(0, 1500)]);
+    if calcium_silicate == 1 && random.one_in(4) {
+        numbers[2] = random.within(2750, 3600);
+    }
     numbers
 }
 

@@ -11,7 +11,7 @@ use wallcheck::{
 
 const LINES: &str = include_str!("../../../cases.txt");
 const ROWS: &str = include_str!("../../../rows.txt");
-const EDITION: u64 = 101;
+const EDITION: u64 = 102;
 const OUT_LENGTHS: [usize; 4] = [0, 63, 64, 100];
 const FILL: u8 = 0xA5;
 
@@ -97,13 +97,13 @@ fn cases(file: &'static str) -> impl Iterator<Item = (&'static str, CheckResult)
         .map(|(case, numbers)| (case, result_of(numbers)))
 }
 
-/// The row of 17 numbers with a space between.
+/// The row of 19 numbers with a space between.
 fn cells_of(numbers: &str) -> Cells {
     let cells: Vec<f64> = numbers
         .split(' ')
         .map(|n| n.parse().expect("a cell"))
         .collect();
-    let cells: [f64; 17] = cells.try_into().expect("17 cells");
+    let cells: [f64; 19] = cells.try_into().expect("19 cells");
     cells.into()
 }
 

@@ -1,21 +1,31 @@
--- `StoreyWall::too_high` meets its contract: the product fits, and it is the definition's test.
-use Prim.Native.Nat.{_*_}
-use native.Mathlib.Omega.{arith}
-use lib.Dec.{eqb, ltb}
-use Rattle.storey.proofs.Range.{in-ranges}
-use Rattle.storey.specs.Limits.{tooHigh, heightLimit}
-use Rattle.storey.proofs.Limits.{height-test}
+-- `StoreyWall::too_high` meets its contract: it asks the limit that the definition chooses.
+use borrow.Author.Needs.{needs}
+use Rattle.storey.specs.Height.{generalHeight, calciumSilicateHeight, calciumSilicateApplies, heightLimit}
+use Rattle.storey.specs.Limits.{tooHigh}
+use Rattle.storey.proofs.Height.{limit-test}
 use Rattle.storey.proofs.StoreyWall.too_high.Statement.{statement}
 use Rattle.storey.proofs.StoreyWall.too_high.Tie as tie
 
-mul-result : tie.Need-mul-result
-mul-result c = omega (arith, in-ranges (c .before .before .before .before .args .self) (c .before .before .before .before .pre))
+above-calcium-silicate-height-requires : tie.Need-above-calcium-silicate-height-requires
+above-calcium-silicate-height-requires c κs = search needs
+
+above-general-height-requires : tie.Need-above-general-height-requires
+above-general-height-requires c κs = search needs
 
 returns : tie.Need-returns
 unfolding tooHigh heightLimit
 returns c =
-    let w = c .before .before .before .before .before .args .self in
-    height-test (eqb (w .usage) 1) (ltb (w .thickness) 240) 2750 (12 * w .thickness) (w .height)
+    let table = c .before in
+    let applies = table .before in
+    let w = applies .before .args .self in
+    rw (c .above-general-height .ensures, table .above-calcium-silicate-height .ensures, applies .calcium-silicate-applies .ensures)
+    (limit-test (calciumSilicateApplies w) (calciumSilicateHeight (w .usage) (w .thickness) (w .strength)) (generalHeight (w .usage) (w .thickness)) (w .height))
 
 pub too-high-spec : {M : Type 1} → statement M
-too-high-spec = tie.close (tie.spec mul-result returns)
+too-high-spec =
+    tie.close
+    (tie.spec
+    (λ c κs. tt)
+    above-calcium-silicate-height-requires
+    above-general-height-requires
+    returns)

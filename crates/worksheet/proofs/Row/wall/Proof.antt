@@ -4,7 +4,9 @@ use Rattle.worksheet.proofs.Row.wall.Tie as tie
 
 returns : tie.Need-returns
 returns c =
-    let otherspan = c in
+    let wind = c in
+    let calciumsilicate = wind .before in
+    let otherspan = calciumsilicate .before in
     let storeys = otherspan .before in
     let building = storeys .before in
     let floorload = building .before in
@@ -39,12 +41,16 @@ returns c =
       building .number13 .ensures,
       storeys .number14 .ensures,
       otherspan .number15 .ensures,
+      calciumsilicate .number16 .ensures,
+      wind .number17 .ensures,
     )
 
 pub wall-spec : {M : Type 1} → statement M
 wall-spec =
     tie.close
     (tie.spec
+    (λ c κs. tt)
+    (λ c κs. tt)
     (λ c κs. tt)
     (λ c κs. tt)
     (λ c κs. tt)

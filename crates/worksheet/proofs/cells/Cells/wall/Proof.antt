@@ -4,7 +4,9 @@ use Rattle.worksheet.proofs.cells.Cells.wall.Tie as tie
 
 returns : tie.Need-returns
 returns c =
-    let otherspan = c in
+    let wind = c in
+    let calciumsilicate = wind .before in
+    let otherspan = calciumsilicate .before in
     let storeys = otherspan .before in
     let building = storeys .before in
     let floorload = building .before in
@@ -39,12 +41,16 @@ returns c =
       building .number15 .ensures,
       storeys .number16 .ensures,
       otherspan .number17 .ensures,
+      calciumsilicate .number18 .ensures,
+      wind .number19 .ensures,
     )
 
 pub wall-spec : {M : Type 1} → statement M
 wall-spec =
     tie.close
     (tie.spec
+    (λ c κs. tt)
+    (λ c κs. tt)
     (λ c κs. tt)
     (λ c κs. tt)
     (λ c κs. tt)
