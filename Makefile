@@ -7,7 +7,7 @@
 PREFIX ?= /usr/local
 # The first number, which is also the shared library's, is raised where a struct or a function's arguments change, the
 # second where a result changes or a function is added.
-VERSION = 4.0.0
+VERSION = 4.1.0
 SONAME = libwallcheck.so.$(firstword $(subst ., ,$(VERSION)))
 SHARED = libwallcheck.so.$(VERSION)
 FUNCTIONS = wallcheck_edition wallcheck_line wallcheck_line_into wallcheck_row wallcheck_row_into

@@ -33,7 +33,8 @@ extern "C" {
 typedef struct {
     uint64_t refusal;        /* 0 accepted, else the first refusal that applies */
     uint64_t length_or_need; /* storey wall: buckling length in tenths of a mm; cellar wall: required dead load */
-    uint64_t load;           /* design load N */
+    uint64_t load;           /* design load N: 1.35G + 1.5Q; storey wall with q up to 3000: the smaller of that and
+                              * 1.4(G + Q); rounded up */
     uint64_t resistance;     /* resistance */
     int64_t spare;           /* resistance - load */
 } wallcheck_result;

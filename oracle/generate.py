@@ -17,7 +17,7 @@ from itertools import chain, islice
 
 from cases import read_lines
 from walls import (A, CELLAR_RANGES, CellarWall, K, STOREY_RANGES, StoreyWall, check, factor_r, greatest_height,
-                   line_of, load, need, row_of)
+                   line_of, need, row_of)
 
 LARGEST = 999999999
 S, C = A._replace, K._replace
@@ -45,12 +45,12 @@ CELLAR_WALLS = [K, C(c=2500), C(c=3750), C(e=0), C(e=2500), C(bonded=1), C(t=200
 
 def storey_thresholds(wall):
     """The values at which a rule changes, for each number."""
-    t, h, c, L, M = wall.t, wall.h, wall.c, wall.L, wall.M
+    t, h, c, L, M, G, Q = wall.t, wall.h, wall.c, wall.L, wall.M, wall.G, wall.Q
     return StoreyWall(
         use=(), t=THICKNESS_THRESHOLDS, h=(2750, 3000, 3300, 3600, 12 * t, c, 3 * c), w=(40000 // t, 100000 // t),
         held=(), c=(h, h // 3, 15 * t, 30 * t, 2000, 4500), support=(), L=(4200, 6000, 9600, M // 2, M, 2 * M),
-        a=(100, t // 2, 9 * t // 20, 175, t), F=(180, 350, 500, 1000), bonded=(), G=(), Q=(), q=(3000, 5000),
-        H=(20000,), n=(1, 2, 3), M=(L // 2, L, 2 * L, 6000), mark=(), wind=(1250,))
+        a=(100, t // 2, 9 * t // 20, 175, t), F=(180, 350, 500, 1000), bonded=(), G=(2 * Q,), Q=(G // 2,),
+        q=(3000, 5000), H=(20000,), n=(1, 2, 3), M=(L // 2, L, 2 * L, 6000), mark=(), wind=(1250,))
 
 
 def cellar_thresholds(wall):
@@ -128,24 +128,40 @@ def slenderness_edges():
                     yield wall._replace(h=h, held=held, c=c, F=5000)
 
 
-def loads_of(N):
-    """Some G and Q whose load is N, or None."""
-    for Q in range(20):
-        G = (100 * N - 150 * Q) // 135
-        if 1 <= G <= 10000000 and load(G, Q) == N:
-            return {'G': G, 'Q': Q}
-    return None
+def load_edges():
+    """G against Q on both sides of q = 3000: where 1.4(G + Q) and 1.35G + 1.5Q meet, at G = 2Q, and small loads, which show
+    each rounding."""
+    for q in (2999, 3000, 3001):
+        for Q in (1, 10, 1000, 30000, 5000000):
+            for G in near(2 * Q):
+                yield S(G=G, Q=Q, q=q)
+    for q in (3000, 3001):
+        for Q in range(13):
+            for G in range(1, 25):
+                yield S(G=G, Q=Q, q=q)
+
+
+def with_load(wall, N):
+    """Records whose load is N: one with hardly any imposed load, and one with hardly any dead load, where for q ≤ 3000 the
+    load of a storey wall is 1.4(G + Q)."""
+    dead = (wall._replace(G=(100 * N - 150 * Q) // 135, Q=Q) for Q in range(20))
+    imposed = (wall._replace(G=G, Q=(100 * N - dead_factor * G) // imposed_factor)
+               for G in range(1, 21) for dead_factor, imposed_factor in ((140, 140), (135, 150)))
+    for records in (dead, imposed):
+        yield from islice((record for record in records if check(record).load == N > 0), 1)
 
 
 def verdict_edges(walls):
-    """N equal to the resistance and beside it; for cellar walls also G equal to the need and beside it."""
+    """N equal to the resistance and beside it, for storey walls also with the same loads on both sides of q = 3000; for
+    cellar walls also G equal to the need and beside it."""
     for wall in walls:
         result = check(wall)
         if result.load > 0:
             for N in near(result.resistance):
-                loads = loads_of(N)
-                if loads:
-                    yield wall._replace(**loads)
+                for record in with_load(wall, N):
+                    yield record
+                    if isinstance(wall, StoreyWall):
+                        yield from (record._replace(q=q) for q in (3000, 3001) if q != wall.q)
             if isinstance(wall, CellarWall):
                 for G in near(need(wall)):
                     yield wall._replace(G=G)
@@ -159,9 +175,10 @@ def storey_edges():
     yield from holding_edges()
     yield from two_way_edges()
     yield from calcium_silicate_edges()
+    yield from load_edges()
     yield from slenderness_edges()
     yield from verdict_edges(STOREY_WALLS)
-    yield from verdict_edges(islice(random_storey_walls(Numbers(1)), 200))
+    yield from verdict_edges(islice(random_storey_walls(Numbers(1)), 120))
 
 
 def cellar_edges():

@@ -6,15 +6,16 @@
 from math import inf, nan, nextafter
 
 from cases import read_lines, read_rows
-from walls import (A, K, StoreyWall, buckling_length, check, check_line, check_row, greatest_height, lent, line_of,
-                   need, refused, row_of, schedule, span_reduced, storey_resistance, text, whole_number)
+from walls import (A, K, StoreyWall, buckling_length, cellar_load, check, check_line, check_row, greatest_height, lent,
+                   line_of, need, refused, row_of, schedule, span_reduced, storey_load, storey_resistance, text,
+                   whole_number)
 
 S, C = A._replace, K._replace
 
 WHOLE_CASE = [A, S(support=2, L=6000), S(G=200000), K]
 WHOLE_CASE_PRINTED = b"""\
-0 19688 216000 352425 136425
-0 19688 216000 297500 81500
+0 19688 210000 352425 142425
+0 19688 210000 297500 87500
 13 19688 405000 352425 -52575
 0 27398 69000 344722 275722
 1 0 0 0 0
@@ -43,20 +44,32 @@ MARKED = [
 
 # Worked examples and remarks on single rules: a record and its result.
 WORKED = [
-    (S(use=2, support=2, L=5500, Q=140000), (0, 19688, 291000, 338819, 47819)),
-    (S(use=2, t=365, a=245, support=2, L=5500, F=180, G=30000, Q=70000), (0, 26250, 145500, 170765, 25265)),
-    (S(held=3, t=240, a=240, h=2750, w=1750, c=1750, F=1051), (0, 20250, 216000, 1103022, 887022)),
+    (S(use=2, support=2, L=5500, Q=140000), (0, 19688, 280000, 338819, 58819)),
+    (S(use=2, t=365, a=245, support=2, L=5500, F=180, G=30000, Q=70000), (0, 26250, 140000, 170765, 30765)),
+    (S(held=3, t=240, a=240, h=2750, w=1750, c=1750, F=1051), (0, 20250, 210000, 1103022, 893022)),
     (C(e=2680, y=18000, F=400, G=72500, Q=0), (16, 0, 0, 0, 0)),
     (S(t=365, a=164), (10, 0, 0, 0, 0)),
-    (S(t=240, a=120, h=4800), (13, 48000, 216000, 0, -216000)),
-    (S(F=182, bonded=1), (13, 19688, 216000, 102626, -113374)),
+    (S(t=240, a=120, h=4800), (13, 48000, 210000, 0, -210000)),
+    (S(F=182, bonded=1), (13, 19688, 210000, 102626, -107374)),
     # Document 02, #101
-    (S(support=2, L=6000, M=12000), (0, 19688, 216000, 352425, 136425)),
-    (S(support=2, L=5999, M=12000), (0, 19688, 216000, 297582, 81582)),
+    (S(support=2, L=6000, M=12000), (0, 19688, 210000, 352425, 142425)),
+    (S(support=2, L=5999, M=12000), (0, 19688, 210000, 297582, 87582)),
     # Document 02, #102
-    (S(use=2, h=3300, mark=1, wind=1250), (0, 24750, 216000, 312363, 96363)),
+    (S(use=2, h=3300, mark=1, wind=1250), (0, 24750, 210000, 312363, 102363)),
     (S(use=2, h=3301, mark=1, wind=1250), (6, 0, 0, 0, 0)),
-    (S(h=3600, mark=1), (0, 27000, 216000, 291626, 75626)),
+    (S(h=3600, mark=1), (0, 27000, 210000, 291626, 81626)),
+    # Document 02, #103. Version two accepted the first of these walls with q = 3001 and refused it with q = 3000.
+    (S(G=261055, Q=0, q=3001), (0, 19688, 352425, 352425, 0)),
+    (S(G=261055, Q=0, q=3000), (0, 19688, 352425, 352425, 0)),
+    (S(G=161732, q=3001), (13, 19688, 353339, 352425, -914)),
+    (S(G=161732, q=3000), (0, 19688, 352425, 352425, 0)),
+]
+
+# Document 02, #103: G, Q, N for q up to 3000, and N above 3000 and for a cellar wall.
+LOADS = [
+    (60000, 90000, 210000, 216000), (200000, 90000, 405000, 405000),
+    (60000, 29900, 125850, 125850), (60000, 30000, 126000, 126000), (60000, 30100, 126140, 126150),
+    (1, 0, 2, 2), (10, 0, 14, 14), (1, 10, 16, 17), (10000000, 10000000, 28000000, 28500000),
 ]
 
 # Document 02, #102, written out: the greatest clear heights with the mark and a = t, thickness by thickness, for these
@@ -128,6 +141,10 @@ def documents():
                 agree(f'height of {line_of(wall)}', greatest_height(wall), height)
                 for other in (wall._replace(mark=0), wall._replace(a=t - 1)):
                     agree(f'height of {line_of(other)}', greatest_height(other), table[t][0])
+    for G, Q, up_to_3000, above in LOADS:
+        for q, N in [(0, up_to_3000), (3000, up_to_3000), (3001, above), (100000, above)]:
+            agree(f'load for G={G}, Q={Q}, q={q}', storey_load(S(G=G, Q=Q, q=q)), N)
+        agree(f'load of a cellar wall for G={G}, Q={Q}', cellar_load(C(G=G, Q=Q)), above)
     for more in (b'', b' 0', b' 0 0', b' 0 0 0 0'):
         agree('a line with too few or too many numbers', check_line(line_of(A)[:-6] + more), refused(1))
 

@@ -131,9 +131,28 @@ def storey_resistance(wall, E):
     return floor(exact_resistance(wall, E))
 
 
-def load(G, Q):
-    """N: 1.35G + 1.5Q, rounded up."""
-    return ceil(Fraction(135 * G + 150 * Q, 100))
+def general_load(G, Q):
+    """Document 01's load before it is rounded: 1.35G + 1.5Q."""
+    return Fraction(135 * G + 150 * Q, 100)
+
+
+def simplified_load(G, Q):
+    """#103: 1.4(G + Q)."""
+    return Fraction(140 * (G + Q), 100)
+
+
+def exact_load(G, Q, q):
+    """#103: for q ≤ 3000 the smaller of both, above it document 01's."""
+    return min(simplified_load(G, Q), general_load(G, Q)) if q <= 3000 else general_load(G, Q)
+
+
+def rounded_load(exact):
+    """N: rounded up."""
+    return ceil(exact)
+
+
+def storey_load(wall):
+    return rounded_load(exact_load(wall.G, wall.Q, wall.q))
 
 
 def general_height(wall):
@@ -182,6 +201,11 @@ def cellar_resistance(wall):
     """17Ft/9, times 4/5 if bonded, rounded down."""
     exact = Fraction(17 * wall.F * wall.t, 9)
     return floor(exact * Fraction(4, 5) if wall.bonded == 1 else exact)
+
+
+def cellar_load(wall):
+    """#103 is for storey walls only."""
+    return rounded_load(general_load(wall.G, wall.Q))
 
 
 # ---- Results and refusals
@@ -250,7 +274,7 @@ def check_storey(wall):
     if number:
         return refused(number)
     E = buckling_length(wall)
-    N = load(wall.G, wall.Q)
+    N = storey_load(wall)
     resistance = storey_resistance(wall, E)
     return filled(13 if N > resistance else 0, E, N, resistance)
 
@@ -260,7 +284,7 @@ def check_cellar(wall):
     if number:
         return refused(number)
     required = need(wall)
-    N = load(wall.G, wall.Q)
+    N = cellar_load(wall)
     resistance = cellar_resistance(wall)
     number = 18 if N > resistance else 19 if wall.G < required else 0
     return filled(number, required, N, resistance)

@@ -63,8 +63,26 @@ fn within(number: u64, low: u64, high: u64) -> bool {
 }
 
 #[inline(always)]
-fn load(dead: u64, imposed: u64) -> u64 {
-    (135 * dead + 150 * imposed).div_ceil(100)
+fn rounded_load(hundredths: u64) -> u64 {
+    hundredths.div_ceil(100)
+}
+
+// In hundredths.
+#[inline(always)]
+fn general_load(dead: u64, imposed: u64) -> u64 {
+    135 * dead + 150 * imposed
+}
+
+#[inline(always)]
+fn storey_load(dead: u64, imposed: u64, floor_load: u64) -> u64 {
+    let general = general_load(dead, imposed);
+    let simplified = 140 * (dead + imposed);
+    let exact = if floor_load <= 3000 {
+        simplified.min(general)
+    } else {
+        general
+    };
+    rounded_load(exact)
 }
 
 #[inline(always)]
@@ -214,7 +232,7 @@ fn check_storey(numbers: &[u64; STOREY_NUMBERS]) -> CheckResult {
         return refused(limit);
     }
     let [_, t, h, w, held, c, support, span, a, f, bonded, dead, imposed, ..] = *numbers;
-    let [.., other, _, _] = *numbers;
+    let [.., floor_load, _, _, other, _, _] = *numbers;
     let e = buckling_length(t, h, held, c, a);
     if e > 270 * t {
         return refused(12);
@@ -231,7 +249,7 @@ fn check_storey(numbers: &[u64; STOREY_NUMBERS]) -> CheckResult {
         };
         resistance = resistance.min(times * a * m / 1_800_000);
     }
-    let load = load(dead, imposed);
+    let load = storey_load(dead, imposed, floor_load);
     filled(if load > resistance { 13 } else { 0 }, e, load, resistance)
 }
 
@@ -284,7 +302,7 @@ fn check_cellar(numbers: &[u64; CELLAR_NUMBERS]) -> CheckResult {
     let need = (y * h * h * e * e).div_ceil(20_000_000 * b * t);
     let fifths = if bonded == 1 { 4 } else { 5 };
     let resistance = 17 * fifths * f * t / 45;
-    let load = load(dead, imposed);
+    let load = rounded_load(general_load(dead, imposed));
     let refusal = if load > resistance {
         18
     } else if dead < need {

@@ -101,8 +101,13 @@ fn read_line(line: &[u8]) -> Option<Wall> {
     }
 }
 
-fn load(dead: u64, imposed: u64) -> u64 {
-    (135 * dead + 150 * imposed).div_ceil(100)
+fn rounded_load(hundredths: u64) -> u64 {
+    hundredths.div_ceil(100)
+}
+
+// In hundredths.
+fn general_load(dead: u64, imposed: u64) -> u64 {
+    135 * dead + 150 * imposed
 }
 
 impl StoreyWall {
@@ -205,6 +210,16 @@ impl StoreyWall {
         length as u64
     }
 
+    fn load(&self) -> u64 {
+        let general = general_load(self.dead, self.imposed);
+        let exact = if self.floor_load <= 3000 {
+            general.min(140 * (self.dead + self.imposed))
+        } else {
+            general
+        };
+        rounded_load(exact)
+    }
+
     /// The shorter of both spans, where there is another one.
     fn governing_span(&self) -> u64 {
         match self.other_span {
@@ -278,7 +293,7 @@ impl StoreyWall {
         match self.refusal() {
             0 => {
                 let buckling_length = self.buckling_length();
-                let load = load(self.dead, self.imposed);
+                let load = self.load();
                 let resistance = self.resistance(buckling_length);
                 filled(
                     if load > resistance { 13 } else { 0 },
@@ -352,7 +367,7 @@ impl CellarWall {
     fn check(&self) -> CheckResult {
         match self.refusal() {
             0 => {
-                let load = load(self.dead, self.imposed);
+                let load = rounded_load(general_load(self.dead, self.imposed));
                 let resistance = self.resistance();
                 let need = self.need();
                 let refusal = if load > resistance {

@@ -10,7 +10,7 @@
 
 #include "wallcheck.h"
 
-enum { EDITION = 102, CELLS = 19 };
+enum { EDITION = 103, CELLS = 19 };
 
 _Static_assert(sizeof(wallcheck_result) == 40, "five numbers of eight bytes");
 _Static_assert(sizeof(wallcheck_cells) == CELLS * sizeof(double), "nineteen cells");

@@ -1,4 +1,5 @@
--- Document 01's whole case: "A; A with support 2 and L=6000; A with G=200000; K; `S 175` print ..".
+-- Document 01's whole case: "A; A with support 2 and L=6000; A with G=200000; K; `S 175` print ..". Document 02, #103: "Example A then has N 210000
+-- and spare 142425, with support 2 and L=6000 spare 87500; the other lines of the whole case keep their numbers."
 use mathlib.Core.List.{[], _∷_, flatMap}
 use mathlib.Core.Path.{_≡_}
 use Rattle.text.specs.Quoted.{bytes}
@@ -14,8 +15,8 @@ WholeCase =
     ∷ "S 175\n"
     ∷ []))
     ≡ flatMap bytes (
-    "0 19688 216000 352425 136425\n"
-    ∷ "0 19688 216000 297500 81500\n"
+    "0 19688 210000 352425 142425\n"
+    ∷ "0 19688 210000 297500 87500\n"
     ∷ "13 19688 405000 352425 -52575\n"
     ∷ "0 27398 69000 344722 275722\n"
     ∷ "1 0 0 0 0\n"

@@ -1,4 +1,4 @@
--- Proofs of claims of specs/Claims.antt; the others stand in Height.antt and Check.antt.
+-- Proofs of claims of specs/Claims.antt; the others stand in Height.antt, Load.antt and Check.antt.
 use Prim.Native.Nat.{_*_, min}
 use mathlib.Core.Bool.{and-comm}
 use mathlib.Core.Path.{_≡_, refl}

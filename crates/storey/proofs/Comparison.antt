@@ -313,4 +313,4 @@ module _ (first second : StoreyWall) (pair : NoWorse first second) (passed : inR
   limits-kept none = subst (λ (w : StoreyWall). NoneApplies (limits w)) (pair .all-else) (none-kept each-kept none)
 
   pub load-falls : load second ≤ load first
-  load-falls = load-grows second first (pair .dead) (pair .imposed)
+  load-falls = load-grows second first (pair .dead) (pair .imposed) (pair .floorload)

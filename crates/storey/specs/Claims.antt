@@ -1,4 +1,4 @@
--- Demand 2 for a storey wall, as claims about the definitions; their proofs stand in proofs/Claims.antt, Height.antt and Check.antt. What holds of any
+-- Demand 2 for a storey wall, as claims about the definitions; their proofs stand in proofs/Claims.antt, Height.antt, Load.antt and Check.antt. What holds of any
 -- check stands in basis, what holds of both kinds in walls.
 use Prim.Native.Nat.{ℕ, _≤_, _<_}
 use mathlib.Core.Bool.{Bool, true, cond}
@@ -10,6 +10,7 @@ use Rattle.basis.specs.Fraction.{whole, LeastAtOrAbove, LessThanOneBelow}
 use Rattle.basis.specs.Refusal.{firstOr, NoneApplies}
 use Rattle.basis.specs.Result.{refusedWith, Accepted}
 use Rattle.basis.specs.Check.{reported}
+use Rattle.basis.specs.Load.{roundedLoad}
 use Rattle.storey.specs.declared.StoreyWall.{StoreyWall}
 use Rattle.storey.specs.declared.Assessment.the-variants.{Within}
 use Rattle.storey.specs.Record.{withCalciumSilicate, withWind}
@@ -17,7 +18,7 @@ use Rattle.storey.specs.Range.{inRange}
 use Rattle.storey.specs.Span.{governingSpan, supportSpan}
 use Rattle.storey.specs.BucklingLength.{exactLength, bucklingLength}
 use Rattle.storey.specs.Resistance.{exactResistance, resistance}
-use Rattle.storey.specs.Load.{load}
+use Rattle.storey.specs.Load.{generalLoad, load}
 use Rattle.storey.specs.Height.{NoLower, generalHeight, calciumSilicateHeight, heightLimit}
 use Rattle.storey.specs.Limits.{tooHigh, slendernessLimit, limits}
 use Rattle.storey.specs.Check.{measures, parts, check, assessment, behind, Assessed}
@@ -53,6 +54,14 @@ OnlyHeightChanges =
     × (bucklingLength other ≡ bucklingLength w)
     × (load other ≡ load w)
     × (resistance other ≡ resistance w)
+
+-- Document 02, #103: "Lighter loads must go on leaving an accepted wall accepted, also across q = 3000". Where neither G nor Q nor q falls, N does not fall.
+abbrev pub LoadGrows : Type 0
+LoadGrows = (w w' : StoreyWall) → w .dead ≤ w' .dead → w .imposed ≤ w' .imposed → w .floorload ≤ w' .floorload → load w ≤ load w'
+
+-- #103, "the smaller of that and 1.35G + 1.5Q": N is never above document 01's. With `AcceptedExactly`: a wall accepted with that load is accepted.
+abbrev pub LoadNoGreater : Type 0
+LoadNoGreater = (w : StoreyWall) → load w ≤ roundedLoad (generalLoad (w .dead) (w .imposed))
 
 -- E is the exact buckling length rounded up.
 abbrev pub LengthRoundedUp : Type 0

@@ -1,4 +1,4 @@
--- The storey wall of document 01: one file for each of its headings and paragraphs, in its order; Span is document 02, #101, and Height has #102.
+-- The storey wall of document 01: one file for each of its headings and paragraphs, in its order; Span is document 02, #101; Height has #102 and Load #103.
 pub mod Record
 pub mod Range
 pub mod Span

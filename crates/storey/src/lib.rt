@@ -1,5 +1,5 @@
 // The storey wall of document 01: its record; its ranges, limits, factors and check stand in one module for each heading;
-// `spans` is document 02, #101, and `heights` has #102 beside document 01.
+// `spans` is document 02, #101; `heights` has #102 and `design_load` #103 beside document 01.
 mod buckling_length;
 mod design_load;
 mod design_resistance;

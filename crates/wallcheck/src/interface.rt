@@ -4,7 +4,7 @@ ghost use Rattle.wallcheck.specs.Entry.{lineResult, cellsResult, lent, e
 use basis::CheckResult;
 use worksheet::cells::Cells;
 
-const EDITION: u64 = 102;
+const EDITION: u64 = 103;
 
 // Which rules a result is computed by. Offices file it with their results.
 #[no_mangle]

@@ -29,7 +29,7 @@ unfolding sr.inRange sb.bearingSuffices sb.factor sb.twoSides sb.threeSides sb.f
 lengths w = check w
 
 unfoldable pub resistances : Wall → CheckResult
-unfolding sp.governingSpan sp.spanReduced sp.supportSpan ss.atMidHeight ss.supportFactor ss.atSupport ss.reductionFifths ss.unreduced ss.exactResistance ss.resistance sl.exactLoad sl.load
+unfolding sp.governingSpan sp.spanReduced sp.supportSpan ss.atMidHeight ss.supportFactor ss.atSupport ss.reductionFifths ss.unreduced ss.exactResistance ss.resistance sl.loadOf sl.exactLoad sl.load
 resistances w = check w
 
 unfoldable pub storey-limits : Wall → CheckResult

@@ -13,7 +13,8 @@ use Rattle.walls.specs.Check.{inRange, check}
 
 -- "Two storey records in range, the second with no greater G, Q, q, L, H, h, no lower F, no shallower a, any of these at once, all else equal:
 -- if the first is accepted so is the second, with at least the first's resistance." What document 02 asks: M equal (#101), and mark and wind
--- "equal in any two records compared" (#102), are part of `all-else` of `NoWorse`; #101's condition on L is its field `spans`.
+-- "equal in any two records compared" (#102), are part of `all-else` of `NoWorse`; #101's condition on L is its field `spans`. The claim
+-- holds across q = 3000, where the load's formula changes (#103).
 abbrev pub StoreyComparison : Type 0
 StoreyComparison =
     (first second : StoreyWall) → inRange (Storey first) ≡ true → inRange (Storey second) ≡ true → NoWorse first second →

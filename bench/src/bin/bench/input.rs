@@ -57,7 +57,7 @@ fn storey_numbers(random: &mut Random) -> Vec<u64> {
     ]);
     numbers.extend([
         random.within(0, 90_000),
-        random.within(0, 3000),
+        random.within(0, 4000),
         random.within(3000, 20_000),
     ]);
     numbers.push(random.within(1, 4));
