@@ -1,16 +1,17 @@
 # make lib       proves the library and writes it with its header to dist/, where it is not there or older than a source
 # make callers   the acceptance cases from C, Rust and Python; Python also compares with the oracle
 # make plain     the plain Rust programs of the benchmark do the same job: their output is the stored expected output
-# make bench     speed beside the same job in plain Rust, as ratios
+# make bench     speed beside the same job in plain Rust, as ratios; with BEFORE=FOLDER, an earlier checkout in which
+#                `make bench` has run, also beside its library and program
 # make install   library, header, pkg-config file, program and manual, PREFIX=/usr/local
 # make test      everything
 PREFIX ?= /usr/local
 # The first number, which is also the shared library's, is raised where a struct or a function's arguments change, the
 # second where a result changes or a function is added.
-VERSION = 4.1.0
+VERSION = 4.2.0
 SONAME = libwallcheck.so.$(firstword $(subst ., ,$(VERSION)))
 SHARED = libwallcheck.so.$(VERSION)
-FUNCTIONS = wallcheck_edition wallcheck_line wallcheck_line_into wallcheck_row wallcheck_row_into
+FUNCTIONS = wallcheck_edition wallcheck_line wallcheck_line_taken wallcheck_line_into wallcheck_row wallcheck_row_into
 BUILD = build
 ifeq ($(origin CC),default)
 CC = gcc
@@ -53,7 +54,7 @@ plain:
 bench: lib plain
 	@./schedule </dev/null
 	@$(CARGO_ENV) cargo build --quiet --release --offline --features library --manifest-path bench/Cargo.toml
-	@$(BUILD)/cargo/release/bench target/bin/schedule
+	@WALLCHECK_BEFORE="$(BEFORE)" $(BUILD)/cargo/release/bench target/bin/schedule
 
 install: lib
 	@./schedule </dev/null

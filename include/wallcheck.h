@@ -39,6 +39,15 @@ typedef struct {
     int64_t spare;           /* resistance - load */
 } wallcheck_result;
 
+/* The result of a line and how many of its bytes were taken, front to back: up to and including the first wrong byte,
+ * or all where there is none. A byte is wrong when no line of the right form, in range or not, begins with the bytes up
+ * to and including it. So where refusal 1 comes with fewer bytes taken than the line has, the last one taken is the
+ * first wrong one; with all of them, the last byte is wrong or the line ends too early. */
+typedef struct {
+    wallcheck_result result;
+    uint64_t taken;
+} wallcheck_reading;
+
 /* A worksheet row: a storey wall in cells, the 19 numbers of its line in the line's order. Each cell must be exactly a
  * whole number in its range (negative zero counts as 0); a fraction, an infinity, a NaN and every other number is
  * refusal 2. In brackets: the letter of the formulas. */
@@ -74,7 +83,10 @@ uint64_t wallcheck_edition(void);
  * S and 19 numbers for a storey wall, C and 10 numbers for a cellar wall. */
 wallcheck_result wallcheck_line(const uint8_t *line, size_t len);
 
-/* The same, and the result as text in `out`: its five numbers with one space between, a minus sign where negative,
+/* The same result, and how many bytes were taken. */
+wallcheck_reading wallcheck_line_taken(const uint8_t *line, size_t len);
+
+/* The result of a line, also as text in `out`: its five numbers with one space between, a minus sign where negative,
  * then byte 10. The bytes of `out` behind the text stay as they are. Where `out_len` is under 64, refusal 20 is
  * returned whatever the line is, and nothing is written. */
 wallcheck_result wallcheck_line_into(const uint8_t *line, size_t len, uint8_t *out, size_t out_len);

@@ -267,6 +267,8 @@ def random_storey_walls(numbers):
 # ---- Damaged lines
 
 TELLING_BYTES = b'\0\t\r +-./019:CSs\xb0\xff'
+# Each byte value but the one that ends a line of a schedule.
+WITHIN_A_LINE = bytes(byte for byte in range(256) if byte != 10)
 
 
 def wrong_words(word):
@@ -306,11 +308,17 @@ def damaged_bytes(line):
                 yield line[:place] + bytes([byte]) + line[place:]
 
 
-def replaced_bytes(line):
-    """Each byte value, but the one that ends a line, at each place."""
+def replaced_bytes(line, values=range(256)):
+    """Each of the values at each place."""
     for place in range(len(line)):
-        for byte in chain(range(10), range(11, 256)):
+        for byte in values:
             yield line[:place] + bytes([byte]) + line[place + 1:]
+
+
+def beginnings(line):
+    """Each beginning of a line, from none of it to all."""
+    for length in range(len(line) + 1):
+        yield line[:length]
 
 
 def long_lines():
@@ -330,7 +338,7 @@ def long_lines():
 
 def lines_of_one_byte():
     yield b''
-    for byte in chain(range(10), range(11, 256)):
+    for byte in WITHIN_A_LINE:
         yield bytes([byte])
 
 
@@ -368,7 +376,7 @@ def edge_lines():
     yield from damaged_bytes(line_of(A))
     yield from lines_of_one_byte()
     yield from long_lines()
-    yield from replaced_bytes(b'C 200 9 9 9 900 180 1 99 9 9')
+    yield from replaced_bytes(b'C 200 9 9 9 900 180 1 99 9 9', WITHIN_A_LINE)
 
 
 def lines(count):

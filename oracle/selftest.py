@@ -3,12 +3,13 @@
     python3 oracle/selftest.py
 """
 
+from itertools import product
 from math import inf, nan, nextafter
 
 from cases import read_lines, read_rows
-from walls import (A, K, StoreyWall, buckling_length, cellar_load, check, check_line, check_row, greatest_height, lent,
-                   line_of, need, refused, row_of, schedule, span_reduced, storey_load, storey_resistance, text,
-                   whole_number)
+from walls import (A, K, StoreyWall, beginning_pattern, buckling_length, cellar_load, check, check_line, check_row,
+                   greatest_height, lent, line_of, line_pattern, need, refused, row_of, schedule, span_reduced,
+                   storey_load, storey_resistance, taken, text, whole_number)
 
 S, C = A._replace, K._replace
 
@@ -70,6 +71,17 @@ LOADS = [
     (60000, 90000, 210000, 216000), (200000, 90000, 405000, 405000),
     (60000, 29900, 125850, 125850), (60000, 30000, 126000, 126000), (60000, 30100, 126140, 126150),
     (1, 0, 2, 2), (10, 0, 14, 14), (1, 10, 16, 17), (10000000, 10000000, 28000000, 28500000),
+]
+
+# Document 02, #104: a line and how many of its bytes are taken.
+TAKEN = [
+    (b'', 0), (b'S', 1), (b'C', 1), (b's', 1), (b' ', 1), (b'SS', 2), (b'S\t175', 2), (b'1 175', 1),
+    (b'S 175', 5), (b'S 01', 4), (b'S 012', 4), (b'S  1', 3), (b'S 1  ', 5), (b'S 1.5 2', 4), (b'S -1', 3),
+    (b'S 1,', 4), (b'S 999999999', 11), (b'S 9999999999', 12), (b'S 99999999990', 12), (b'S 0 0 0', 7), (b'S 00', 4),
+    (line_of(A), 68), (line_of(A) + b' ', 69), (line_of(A) + b'\r', 69), (line_of(A) + b'0', 69),
+    (line_of(A) + b' 0 0', 69), (line_of(A)[:-1] + b'1', 68), (line_of(A)[:-1] + b'10', 69),
+    (line_of(A)[:-1] + b'x0', 68), (line_of(A)[:-2], 66), (line_of(K), 49), (line_of(K) + b' ', 50),
+    (line_of(K) + b'0', 50), (line_of(K) + b'00000 ', 55), (line_of(K) + b'000000', 55),
 ]
 
 # Document 02, #102, written out: the greatest clear heights with the mark and a = t, thickness by thickness, for these
@@ -149,6 +161,16 @@ def documents():
         agree('a line with too few or too many numbers', check_line(line_of(A)[:-6] + more), refused(1))
 
 
+def bytes_taken():
+    for line, figure in TAKEN:
+        agree(f'bytes taken of {line}', taken(line), figure)
+    # The sentence itself, in a small form, two numbers of at most two digits: the beginnings of all its lines.
+    strings = [bytes(string) for length in range(9) for string in product(b'S 01x', repeat=length)]
+    lines = filter(line_pattern(b'S', 2, 2).fullmatch, strings)
+    agree('beginnings of lines of a small form', set(filter(beginning_pattern(b'S', 2, 2).fullmatch, strings)),
+          {line[:length] for line in lines for length in range(len(line) + 1)})
+
+
 def program():
     agree('no input', schedule(b''), b'')
     agree('empty lines', schedule(b'\n\n'), b'1 0 0 0 0\n' * 2)
@@ -168,8 +190,9 @@ def rows():
 
 def callers():
     lines = read_lines()
-    for line, result in lines.items():
+    for line, (result, figure) in lines.items():
         agree(line, check_line(line), result)
+        agree(f'bytes taken of {line}', taken(line), figure)
     for cells, result in read_rows():
         agree(f'row {cells}', check_row(cells), result)
     for wall in records():
@@ -178,6 +201,7 @@ def callers():
 
 if __name__ == '__main__':
     documents()
+    bytes_taken()
     program()
     rows()
     callers()

@@ -23,10 +23,19 @@ CELLAR_RANGES = CellarWall(
     t=(1, 1000), h=(1, 20000), e=(0, 20000), c=(1, 30000), y=(1, 30000), F=(1, 5000), bonded=(0, 1),
     G=(1, 10000000), Q=(0, 10000000), p=(0, 100000))
 
-# "1 to 9 digits, without leading zeros (a lone 0 is allowed), with one space before each"
-NUMBER = b' (?:0|[1-9][0-9]{0,8})'
-STOREY_LINE = re.compile(b'S(?:%b){%d}' % (NUMBER, len(StoreyWall._fields)))
-CELLAR_LINE = re.compile(b'C(?:%b){%d}' % (NUMBER, len(CellarWall._fields)))
+
+def number_pattern(digits):
+    """A space and a number: "1 to 9 digits, without leading zeros (a lone 0 is allowed)", or at most so many digits."""
+    return b' (?:0|[1-9][0-9]{0,%d})' % (digits - 1)
+
+
+def line_pattern(letter, count, digits=9):
+    """A letter and so many numbers."""
+    return re.compile(b'%b(?:%b){%d}' % (letter, number_pattern(digits), count))
+
+
+STOREY_LINE = line_pattern(b'S', len(StoreyWall._fields))
+CELLAR_LINE = line_pattern(b'C', len(CellarWall._fields))
 
 
 def read_line(line):
@@ -36,6 +45,32 @@ def read_line(line):
     if CELLAR_LINE.fullmatch(line):
         return CellarWall(*map(int, line.split(b' ')[1:]))
     return None
+
+
+# Document 02, #104
+
+def beginning_pattern(letter, count, digits=9):
+    """What a line of line_pattern can begin with: nothing, or the letter, fewer numbers than the line has and, behind
+    them, nothing, one more number or its space. (What a number begins with, one digit at least, is a number.)"""
+    number = number_pattern(digits)
+    return re.compile(b'(?:%b(?:%b){0,%d}(?:%b| )?)?' % (letter, number, count - 1, number))
+
+
+STOREY_BEGINNING = beginning_pattern(b'S', len(StoreyWall._fields))
+CELLAR_BEGINNING = beginning_pattern(b'C', len(CellarWall._fields))
+
+
+def begins_a_line(part):
+    """Whether some line of the right form, in range or not, begins with these bytes."""
+    return bool(STOREY_BEGINNING.fullmatch(part) or CELLAR_BEGINNING.fullmatch(part))
+
+
+def taken(line):
+    """How many bytes are taken: up to and including the first wrong byte, or all where there is none. A byte is wrong
+    when no line of the form begins with the bytes up to and including it."""
+    if begins_a_line(line):
+        return len(line)
+    return next(count for count in range(1, len(line) + 1) if not begins_a_line(line[:count]))
 
 
 def line_of(wall):

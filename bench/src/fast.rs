@@ -1,6 +1,6 @@
 //! As fast as byte by byte can be: each byte is looked at once, numbers of 64 bits, no allocation for a line.
 
-use crate::{filled, refused, CheckResult, Row, LONGEST_LINE, SHORTEST_BUFFER};
+use crate::{filled, refused, CheckResult, Reading, Row, LONGEST_LINE, SHORTEST_BUFFER};
 use std::io::{self, Read, Write};
 
 const STOREY_NUMBERS: usize = 19;
@@ -9,18 +9,19 @@ const CELLAR_NUMBERS: usize = 10;
 /// Input and output are moved in pieces of this many bytes.
 const PIECE: usize = 64 * 1024;
 
-/// Reads N numbers, each with one space before it. The place behind the last one, where they are all of the form.
+/// Reads N numbers, each with one space before it. The place behind the last one, where they are all of the form, else
+/// that of the first byte that is wrong or missing.
 #[inline(always)]
-fn read_numbers<const N: usize>(bytes: &[u8]) -> Option<([u64; N], usize)> {
+fn read_numbers<const N: usize>(bytes: &[u8]) -> Result<([u64; N], usize), usize> {
     let mut numbers = [0; N];
     let mut at = 1;
     for number in &mut numbers {
-        if *bytes.get(at)? != b' ' {
-            return None;
+        if *bytes.get(at).ok_or(at)? != b' ' {
+            return Err(at);
         }
-        let mut value = bytes.get(at + 1)?.wrapping_sub(b'0') as u64;
+        let mut value = bytes.get(at + 1).ok_or(at + 1)?.wrapping_sub(b'0') as u64;
         if value > 9 {
-            return None;
+            return Err(at + 1);
         }
         at += 2;
         if value != 0 {
@@ -40,20 +41,21 @@ fn read_numbers<const N: usize>(bytes: &[u8]) -> Option<([u64; N], usize)> {
         }
         *number = value;
     }
-    Some((numbers, at))
+    Ok((numbers, at))
 }
 
-/// The result of the line that stands at the start of `bytes` and its length, where it is of the form.
+/// The result of the line that stands at the start of `bytes` and its length, where it is of the form, else the place of
+/// the first byte that is wrong or missing.
 #[inline(always)]
-fn check_start(bytes: &[u8]) -> Option<(CheckResult, usize)> {
-    match bytes.first()? {
-        b'S' => {
+fn check_start(bytes: &[u8]) -> Result<(CheckResult, usize), usize> {
+    match bytes.first() {
+        Some(b'S') => {
             read_numbers::<STOREY_NUMBERS>(bytes).map(|(numbers, at)| (check_storey(&numbers), at))
         }
-        b'C' => {
+        Some(b'C') => {
             read_numbers::<CELLAR_NUMBERS>(bytes).map(|(numbers, at)| (check_cellar(&numbers), at))
         }
-        _ => None,
+        _ => Err(0),
     }
 }
 
@@ -389,8 +391,20 @@ fn into(out: &mut [u8], check: impl FnOnce() -> CheckResult) -> CheckResult {
 #[inline(always)]
 fn line_result(line: &[u8]) -> CheckResult {
     match check_start(line) {
-        Some((result, at)) if at == line.len() => result,
+        Ok((result, at)) if at == line.len() => result,
         _ => refused(1),
+    }
+}
+
+#[inline(always)]
+fn line_reading(line: &[u8]) -> Reading {
+    let (result, taken) = match check_start(line) {
+        Ok((result, at)) if at == line.len() => (result, at),
+        Ok((_, place)) | Err(place) => (refused(1), line.len().min(place + 1)),
+    };
+    Reading {
+        result,
+        taken: taken as u64,
     }
 }
 
@@ -413,6 +427,11 @@ fn row_result(row: &Row) -> CheckResult {
 #[inline(never)]
 pub fn check_line(line: &[u8]) -> CheckResult {
     line_result(line)
+}
+
+#[inline(never)]
+pub fn check_line_taken(line: &[u8]) -> Reading {
+    line_reading(line)
 }
 
 #[inline(never)]
@@ -470,7 +489,7 @@ fn check_ended_lines<W: Write>(piece: &[u8], output: &mut Gathered<W>) -> io::Re
     loop {
         let rest = &piece[start..];
         let length = match check_start(rest) {
-            Some((result, length)) if rest.get(length) == Some(&b'\n') => {
+            Ok((result, length)) if rest.get(length) == Some(&b'\n') => {
                 output.put(&result)?;
                 length
             }

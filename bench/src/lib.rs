@@ -15,6 +15,13 @@ pub struct CheckResult {
     pub spare: i64,
 }
 
+/// The result of a line and how many of its bytes are taken: up to and including the first wrong one, or all.
+#[derive(Clone, Copy, Debug, Default, PartialEq, Eq)]
+pub struct Reading {
+    pub result: CheckResult,
+    pub taken: u64,
+}
+
 /// A worksheet row: the 19 cells in the line's order.
 pub type Row = [f64; 19];
 

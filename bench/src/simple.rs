@@ -1,6 +1,6 @@
 //! As one would first write it: split and parse, wide integers, a String for each result.
 
-use crate::{filled, refused, CheckResult, Row, LONGEST_LINE, SHORTEST_BUFFER};
+use crate::{filled, refused, CheckResult, Reading, Row, LONGEST_LINE, SHORTEST_BUFFER};
 use std::io::{self, BufRead, Write};
 
 struct StoreyWall {
@@ -99,6 +99,33 @@ fn read_line(line: &[u8]) -> Option<Wall> {
         "C" => cellar_wall(&numbers).map(Wall::Cellar),
         _ => None,
     }
+}
+
+/// How many bytes are taken: up to and including the first wrong one, or all.
+fn taken(line: &[u8]) -> usize {
+    let count = match line.first() {
+        Some(b'S') => 19,
+        Some(b'C') => 10,
+        Some(_) => return 1,
+        None => return 0,
+    };
+    let (mut numbers, mut start) = (0, 0);
+    for place in 1..line.len() {
+        let word = &line[start..place];
+        let right = match line[place] {
+            b' ' => !word.is_empty() && numbers < count,
+            b'0'..=b'9' => numbers > 0 && word.len() < 9 && word != b"0",
+            _ => false,
+        };
+        if !right {
+            return place + 1;
+        }
+        if line[place] == b' ' {
+            numbers += 1;
+            start = place + 1;
+        }
+    }
+    line.len()
 }
 
 fn rounded_load(hundredths: u64) -> u64 {
@@ -420,6 +447,14 @@ pub fn check_line(line: &[u8]) -> CheckResult {
         None => refused(1),
         Some(Wall::Storey(wall)) => wall.check(),
         Some(Wall::Cellar(wall)) => wall.check(),
+    }
+}
+
+#[inline(never)]
+pub fn check_line_taken(line: &[u8]) -> Reading {
+    Reading {
+        result: check_line(line),
+        taken: taken(line) as u64,
     }
 }
 

@@ -1,5 +1,5 @@
 /* Runs the acceptance cases against the library: each line, each storey record as a worksheet row too, and each row,
- * alone and into lent buffers of several lengths.
+ * alone and into lent buffers of several lengths; of each line also the count of bytes taken.
  *
  *     gcc -std=c11 -Wall -Wextra -I include callers/c/acceptance.c libwallcheck.a -o acceptance
  *     ./acceptance callers/cases.txt callers/rows.txt
@@ -10,9 +10,11 @@
 
 #include "wallcheck.h"
 
-enum { EDITION = 103, CELLS = 19 };
+enum { EDITION = 104, CELLS = 19 };
 
 _Static_assert(sizeof(wallcheck_result) == 40, "five numbers of eight bytes");
+_Static_assert(sizeof(wallcheck_reading) == 48, "a result and the count");
+_Static_assert(offsetof(wallcheck_reading, taken) == 40, "the count is the last");
 _Static_assert(sizeof(wallcheck_cells) == CELLS * sizeof(double), "nineteen cells");
 _Static_assert(offsetof(wallcheck_cells, held) == 4 * sizeof(double), "held is the fifth");
 _Static_assert(offsetof(wallcheck_cells, wind) == 18 * sizeof(double), "the wind is the last");
@@ -64,9 +66,11 @@ static int as_lent(const struct lent *lent)
     return memcmp(lent->bytes, lent->expected, sizeof lent->bytes) == 0;
 }
 
-static void run_line(const char *line, const uint8_t *bytes, size_t len, wallcheck_result expected)
+static void run_line(const char *line, const uint8_t *bytes, size_t len, wallcheck_result expected, uint64_t taken)
 {
+    wallcheck_reading reading = wallcheck_line_taken(bytes, len);
     report("line", line, same(wallcheck_line(bytes, len), expected));
+    report("line with the bytes taken", line, same(reading.result, expected) && reading.taken == taken);
     for (int i = 0; i < OUT_LENGTHS; i++) {
         struct lent lent;
         wallcheck_result back = lend(&lent, out_lengths[i], expected);
@@ -109,17 +113,29 @@ static wallcheck_result result_of(const char *numbers)
     return (wallcheck_result){refusal, length_or_need, load, resistance, spare};
 }
 
-/* Runs a line, and its row if it is of the form `S`. */
-static void run_line_case(const char *line, wallcheck_result expected)
+/* How many bytes of a line are taken: behind refusal 1 a column says it, any other line has all its bytes taken. */
+static uint64_t taken_of(const char *line, wallcheck_result result, const char *columns)
 {
-    run_line(line, (const uint8_t *)line, strlen(line), expected);
+    const char *tab = strchr(columns, '\t');
+    if ((result.refusal == 1) != (tab != NULL)) {
+        fprintf(stderr, "c: a count of bytes is missing, or stands where none belongs: %s\n", line);
+        exit(1);
+    }
+    return tab == NULL ? strlen(line) : strtoull(tab + 1, NULL, 10);
+}
+
+/* Runs a line, and its row if it is of the form `S`. */
+static void run_line_case(const char *line, const char *columns)
+{
+    wallcheck_result expected = result_of(columns);
+    run_line(line, (const uint8_t *)line, strlen(line), expected, taken_of(line, expected, columns));
     if (expected.refusal != 1 && line[0] == 'S')
         run_row(line, cells_of(line + 1), expected);
 }
 
-static void run_row_case(const char *row, wallcheck_result expected)
+static void run_row_case(const char *row, const char *columns)
 {
-    run_row(row, cells_of(row), expected);
+    run_row(row, cells_of(row), result_of(columns));
 }
 
 /* A null pointer with length 0, as line and as buffer. */
@@ -127,13 +143,13 @@ static void run_null(void)
 {
     wallcheck_cells cells = {0};
     wallcheck_result no_line = {.refusal = 1}, no_buffer = {.refusal = 20};
-    run_line("null", NULL, 0, no_line);
+    run_line("null", NULL, 0, no_line, 0);
     report("line into a buffer", "null, buffer null", same(wallcheck_line_into(NULL, 0, NULL, 0), no_buffer));
     report("row into a buffer", "buffer null", same(wallcheck_row_into(cells, NULL, 0), no_buffer));
 }
 
-/* Runs each case of a file: what stands before the tab, with the result behind it. */
-static void run_file(const char *path, void (*run)(const char *, wallcheck_result))
+/* Runs each case of a file: what stands before the first tab, with the columns behind it. */
+static void run_file(const char *path, void (*run)(const char *, const char *))
 {
     char row[4096];
     FILE *file = fopen(path, "r");
@@ -146,7 +162,7 @@ static void run_file(const char *path, void (*run)(const char *, wallcheck_resul
         if (row[0] == '#' || tab == NULL)
             continue;
         *tab = '\0';
-        run(row, result_of(tab + 1));
+        run(row, tab + 1);
     }
     fclose(file);
 }

@@ -1,4 +1,5 @@
-"""Compares the shared library with the oracle: acceptance cases, lines, rows, lent buffers, and rows with lines.
+"""Compares the shared library with the oracle: acceptance cases, lines and the bytes taken of them, rows, lent buffers,
+and rows with lines.
 
     python3 callers/python/compare.py libwallcheck.so [LINES ROWS RECORDS]
 
@@ -8,6 +9,7 @@ Without numbers 200000 lines, 200000 rows and 100000 records are compared.
 import ctypes
 import struct
 import sys
+from itertools import chain
 from pathlib import Path
 
 sys.path.insert(0, str(Path(__file__).resolve().parent.parent.parent / 'oracle'))
@@ -16,7 +18,7 @@ import generate
 import walls
 from cases import read_lines, read_rows
 
-EDITION = 103
+EDITION = 104
 CELLS = ('usage thickness height length held distance support span bearing strength bonded dead imposed floorload '
          'building storeys otherspan calciumsilicate wind').split()
 GUARD = bytes(range(0xA0, 0xB0))
@@ -26,6 +28,10 @@ FILL = 0xA5
 class Result(ctypes.Structure):
     _fields_ = [('refusal', ctypes.c_uint64), ('length_or_need', ctypes.c_uint64), ('load', ctypes.c_uint64),
                 ('resistance', ctypes.c_uint64), ('spare', ctypes.c_int64)]
+
+
+class Reading(ctypes.Structure):
+    _fields_ = [('result', Result), ('taken', ctypes.c_uint64)]
 
 
 class Cells(ctypes.Structure):
@@ -38,6 +44,7 @@ class Library:
         line, out = [ctypes.c_char_p, ctypes.c_size_t], [ctypes.c_void_p, ctypes.c_size_t]
         self.edition = self.entry(library.wallcheck_edition, [], ctypes.c_uint64)
         self.line = self.entry(library.wallcheck_line, line)
+        self.line_taken = self.entry(library.wallcheck_line_taken, line, Reading)
         self.line_into = self.entry(library.wallcheck_line_into, line + out)
         self.row = self.entry(library.wallcheck_row, [Cells])
         self.row_into = self.entry(library.wallcheck_row_into, [Cells] + out)
@@ -65,6 +72,10 @@ def numbers_of(result):
     return result.refusal, result.length_or_need, result.load, result.resistance, result.spare
 
 
+def reading_of(reading):
+    return numbers_of(reading.result), reading.taken
+
+
 def cells_of(words):
     """The cells with these bits; a signalling NaN stays one."""
     return Cells.from_buffer_copy(struct.pack('<19Q', *words))
@@ -89,8 +100,9 @@ def lent(result, length):
 
 def compare_cases(library, comparison):
     compared = 0
-    for line, expected in read_lines().items():
+    for line, (expected, taken) in read_lines().items():
         comparison.equal(line, numbers_of(library.line(line, len(line))), expected)
+        comparison.equal(line, reading_of(library.line_taken(line, len(line))), (expected, taken))
         compared += 1
     for cells, expected in read_rows():
         comparison.equal(cells, numbers_of(library.row(Cells(*cells))), expected)
@@ -104,8 +116,20 @@ def compare_lines(library, comparison, count):
     for line in generate.lines(count):
         expected = walls.check_line(line)
         comparison.equal(line, numbers_of(library.line(line, len(line))), expected)
+        comparison.equal(line, reading_of(library.line_taken(line, len(line))), (expected, walls.taken(line)))
         comparison.equal(line, lend(library.line_into, (line, len(line)), 64), lent(expected, 64))
         compared += 1
+    return compared
+
+
+def compare_near_lines(library, comparison):
+    """Document 02, #104: A and K with each byte replaced by each byte value, and each beginning of them."""
+    compared = 0
+    for whole in map(walls.line_of, (walls.A, walls.K)):
+        for line in chain(generate.replaced_bytes(whole), generate.beginnings(whole)):
+            expected = walls.check_line(line), walls.taken(line)
+            comparison.equal(line, reading_of(library.line_taken(line, len(line))), expected)
+            compared += 1
     return compared
 
 
@@ -143,7 +167,8 @@ def compare_buffers(library, comparison):
                 compared += 1
     comparison.equal('no line, no buffer', numbers_of(library.line_into(None, 0, None, 0)), walls.refused(20))
     comparison.equal('no line', numbers_of(library.line(None, 0)), walls.refused(1))
-    return compared + 2
+    comparison.equal('no line', reading_of(library.line_taken(None, 0)), (walls.refused(1), 0))
+    return compared + 3
 
 
 def main():
@@ -152,7 +177,8 @@ def main():
     lines, rows, records = map(int, sys.argv[2:] or (200000, 200000, 100000))
     library, comparison = Library(str(Path(sys.argv[1]).resolve())), Comparison()
     print('python:', compare_cases(library, comparison), 'cases,', compare_buffers(library, comparison), 'buffers,',
-          compare_lines(library, comparison, lines), 'lines,', compare_rows(library, comparison, rows), 'rows,',
+          compare_lines(library, comparison, lines), 'lines,', compare_near_lines(library, comparison),
+          'lines near to A and K,', compare_rows(library, comparison, rows), 'rows,',
           compare_rows_with_lines(library, comparison, records), 'rows with their lines:',
           comparison.different, 'differences')
     sys.exit(1 if comparison.different else 0)

@@ -11,6 +11,14 @@ pub struct CheckResult {
     pub spare: i64,
 }
 
+/// The result of a line and the count of bytes taken.
+#[repr(C)]
+#[derive(Clone, Copy, Debug, Default, PartialEq, Eq)]
+pub struct Reading {
+    pub result: CheckResult,
+    pub taken: u64,
+}
+
 /// A worksheet row: the 19 numbers of a storey wall's line, in its order.
 #[repr(C)]
 #[derive(Clone, Copy, Debug, Default)]
@@ -64,11 +72,12 @@ impl From<[f64; 19]> for Cells {
 
 /// The C functions themselves.
 pub mod raw {
-    use super::{Cells, CheckResult};
+    use super::{Cells, CheckResult, Reading};
 
     extern "C" {
         pub fn wallcheck_edition() -> u64;
         pub fn wallcheck_line(line: *const u8, len: usize) -> CheckResult;
+        pub fn wallcheck_line_taken(line: *const u8, len: usize) -> Reading;
         pub fn wallcheck_line_into(
             line: *const u8,
             len: usize,
@@ -90,6 +99,10 @@ pub fn edition() -> u64 {
 
 pub fn check_line(line: &[u8]) -> CheckResult {
     unsafe { raw::wallcheck_line(line.as_ptr(), line.len()) }
+}
+
+pub fn check_line_taken(line: &[u8]) -> Reading {
+    unsafe { raw::wallcheck_line_taken(line.as_ptr(), line.len()) }
 }
 
 pub fn check_line_into(line: &[u8], out: &mut [u8]) -> CheckResult {

@@ -1,6 +1,6 @@
 -- Laws of the automaton: s and t are states, b a byte, c a letter, ns the numbers before, d and v how many digits there are and their value.
 use Prim.Native.Nat.{ℕ, zero, suc, _+_, _*_, _/_, _%_, _^_, _≤_, _<_}
-use mathlib.Core.Bool.{Bool, true, false, cond, _&&_}
+use mathlib.Core.Bool.{Bool, true, false, false≢true, cond, _&&_}
 use mathlib.Core.Path.{_≡_, refl, ap, subst, _∙_}
 use mathlib.Core.List.{List, [], _∷_, _++_}
 use native.Mathlib.Decide.{decLt}
@@ -11,11 +11,13 @@ use lib.Dec.{leb, eqb}
 use lib.ListN.{length, getD, drop, drop-of-length-le}
 use lib.Seq.{drop-cons}
 use borrow.Author.Tests.{lt-ltb, le-ltb, le-leb, leb-true, eqb-true, ne-eqb}
+use Rattle.line.specs.declared.Reading.{Reading}
 use Rattle.line.specs.declared.Reading.the-variants.{Malformed}
+use Rattle.line.specs.declared.CountedReading.{CountedReading}
 use Rattle.text.specs.Decimal.{decimal}
 use Rattle.line.specs.Grammar.{countOf}
-use Rattle.line.specs.Automaton.{State, start, lettered, inside, wrong, digitOf, next, run}
-use Rattle.line.specs.Reading.{answer, readLine}
+use Rattle.line.specs.Automaton.{State, start, lettered, inside, wrong, isWrong, digitOf, next, run}
+use Rattle.line.specs.Reading.{answer, readLine, takenFrom, taken, countedReading}
 use Rattle.text.proofs.Decimal.{decimal-digit}
 use Rattle.line.proofs.Decimal.{decimal-snoc}
 use Rattle.basis.proofs.Choice.{and-left, cond-cases}
@@ -25,37 +27,71 @@ unfolding run
 run-append [] m s = refl
 run-append (b ∷ l) m s = run-append l m (next s b)
 
--- After a wrong byte nothing counts.
+pub is-wrong : (s : State) → isWrong s ≡ true → s ≡ wrong
+is-wrong start e = absurd (false≢true e)
+is-wrong (lettered c) e = absurd (false≢true e)
+is-wrong (inside c ns d v) e = absurd (false≢true e)
+is-wrong wrong e = refl
+
+-- No byte leads out of `wrong`.
 pub run-wrong : (l : List ℕ) → run l wrong ≡ wrong
 unfolding run next
 run-wrong [] = refl
 run-wrong (b ∷ l) = run-wrong l
 
 -- One byte more.
-pub run-drop : (l : List ℕ) (at : ℕ) (s : State) → at < length l → run (drop at l) s ≡ run (drop (at + 1) l) (next s (getD l at 0))
+run-drop : (l : List ℕ) (at : ℕ) (s : State) → at < length l → run (drop at l) s ≡ run (drop (at + 1) l) (next s (getD l at 0))
 unfolding run
 run-drop l at s h = rw (add-one, drop-cons l at 0)
 
--- What the line l is read as follows from its bytes from `at` on, in the state s.
+taken-drop : (l : List ℕ) (at : ℕ) (s : State) → at < length l → isWrong s ≡ false
+    → takenFrom (drop at l) s ≡ 1 + takenFrom (drop (at + 1) l) (next s (getD l at 0))
+unfolding takenFrom
+taken-drop l at s h fine = rw (add-one, drop-cons l at 0, fine)
+
+-- Behind a wrong byte none is taken.
+pub taken-wrong : (l : List ℕ) (s : State) → isWrong s ≡ true → takenFrom l s ≡ 0
+unfolding takenFrom
+taken-wrong [] s e = refl
+taken-wrong (b ∷ l) s e = rw e
+
+-- A reading with its count.
+abbrev pub counted : Reading → ℕ → CountedReading
+counted reading n = record { reading = reading; taken = n }
+
+same-counted : {r r' : Reading} {n n' : ℕ} → r ≡ r' → n ≡ n' → counted r n ≡ counted r' n'
+same-counted e f = rw (e, f)
+
+-- What the line l is read as follows from its bytes from `at` on, in the state s, and so does how many more are taken than those before.
 pub record Continues (l : List ℕ) (at : ℕ) (s : State) : Type 0 where
-  pub reads : readLine l ≡ answer (run (drop at l) s)
+  pub reads : countedReading l ≡ counted (answer (run (drop at l) s)) (at + takenFrom (drop at l) s)
 
 pub continues-start : (l : List ℕ) → Continues l 0 start
-unfolding readLine
-continues-start l = record { reads = refl }
+unfolding countedReading readLine taken
+continues-start l = record { reads = same-counted refl (omega arith) }
 
-module _ {l : List ℕ} {at : ℕ} {s : State} (c : Continues l at s) (left : at < length l) where
+module _ {l : List ℕ} {at : ℕ} {s : State} (c : Continues l at s) (fine : isWrong s ≡ false) (left : at < length l) where
   pub continues-next : {t : State} → next s (getD l at 0) ≡ t → Continues l (at + 1) t
-  continues-next e = record { reads = c .reads ∙ ap answer (run-drop l at s left ∙ ap (run (drop (at + 1) l)) e) }
+  continues-next e =
+      record {
+        reads =
+            c .reads
+            ∙ same-counted
+            (ap answer (run-drop l at s left ∙ ap (run (drop (at + 1) l)) e))
+            (omega (arith, taken-drop l at s left fine, ap (takenFrom (drop (at + 1) l)) e));
+      }
 
-  pub continues-wrong : next s (getD l at 0) ≡ wrong → readLine l ≡ Malformed
+  pub continues-wrong : next s (getD l at 0) ≡ wrong → countedReading l ≡ counted Malformed (at + 1)
   unfolding answer
-  continues-wrong e = continues-next e .reads ∙ ap answer (run-wrong (drop (at + 1) l))
+  continues-wrong e =
+      continues-next e .reads
+      ∙ same-counted (ap answer (run-wrong (drop (at + 1) l))) (omega (arith, taken-wrong (drop (at + 1) l) wrong refl))
 
--- At the end of the line the state decides.
-pub run-end : (l : List ℕ) (at : ℕ) (s : State) → length l ≤ at → run (drop at l) s ≡ s
-unfolding run
-run-end l at s h = rw (drop-of-length-le l h)
+-- At the end of the line the state decides, and all bytes are taken.
+pub counted-end : (l : List ℕ) (at : ℕ) (s : State) → length l ≤ at
+    → counted (answer (run (drop at l) s)) (at + takenFrom (drop at l) s) ≡ counted (answer s) at
+unfolding run takenFrom
+counted-end l at s h = rw (drop-of-length-le l h) (same-counted refl (omega arith))
 
 -- The byte of a digit has the digit's value.
 pub digit-byte : (x : ℕ) → x < 10 → digitOf (48 + x) ≡ x

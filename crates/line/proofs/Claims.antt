@@ -8,7 +8,7 @@ use Rattle.line.specs.declared.Reading.the-variants.{Read, Malformed}
 use Rattle.walls.specs.Check.{numbersOf}
 use Rattle.line.specs.Grammar.{NineDigits, countOf, lineOf}
 use Rattle.line.specs.Automaton.{start, digitOf, next, run}
-use Rattle.line.specs.Reading.{wallOf, answer, readLine}
+use Rattle.line.specs.Reading.{wallOf, answer, readLine, takenFrom, taken, countedReading}
 use Rattle.line.specs.Claims.{CountOfNumbers, ReadingSound, ReadingComplete, MalformedExactly}
 use Rattle.text.specs.Quoted.{bytes}
 use Rattle.line.specs.Worked.{worked, WorkedLines}
@@ -40,5 +40,5 @@ malformed-exactly l = (
     unread Malformed e none = refl
 
 pub worked-lines : WorkedLines
-unfolding readLine run next answer digitOf countOf wallOf bytes worked
+unfolding countedReading readLine taken takenFrom run next answer digitOf countOf wallOf bytes worked
 worked-lines = refl

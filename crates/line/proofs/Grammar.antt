@@ -5,7 +5,7 @@ use mathlib.Core.List.{List, [], _∷_, _++_, append-assoc, append-nil}
 use native.Mathlib.Nat.{not-suc-le-zero}
 use native.Mathlib.Omega.{arith}
 use lib.Dec.{eqb}
-use lib.ListN.{length, getD, take, drop}
+use lib.ListN.{length, getD, take, drop, replicate}
 use lib.Seq.{drop-cons, take-all}
 use borrow.Author.Tests.{eqb-true}
 use Rattle.text.specs.Decimal.{decimal}
@@ -14,14 +14,22 @@ use Rattle.line.specs.Grammar.{fields, NineDigits, countOf, letterOf}
 use Rattle.line.specs.Reading.{wallOf}
 use Rattle.basis.proofs.Choice.{cond-cases}
 
+pub fields-append : (ns ms : List ℕ) → fields (ns ++ ms) ≡ fields ns ++ fields ms
+unfolding fields
+fields-append [] ms = refl
+fields-append (n ∷ ns) ms = rw (fields-append ns ms, append-assoc)
+
 pub fields-snoc : (ns : List ℕ) (n : ℕ) → fields (ns ++ n ∷ []) ≡ fields ns ++ 32 ∷ decimal n
 unfolding fields
-fields-snoc [] n = simp append-nil
-fields-snoc (m ∷ ns) n = rw (fields-snoc ns n, append-assoc)
+fields-snoc ns n = rw (fields-append ns (n ∷ []), append-nil (decimal n))
 
-pub nineDigits-snoc : (ns : List ℕ) (n : ℕ) → NineDigits ns → NineDigits (n ∷ []) → NineDigits (ns ++ n ∷ [])
-nineDigits-snoc [] n all one = one
-nineDigits-snoc (m ∷ ns) n all one = (all .0, nineDigits-snoc ns n (all .1) one)
+pub nineDigits-append : (ns ms : List ℕ) → NineDigits ns → NineDigits ms → NineDigits (ns ++ ms)
+nineDigits-append [] ms all more = more
+nineDigits-append (n ∷ ns) ms all more = (all .0, nineDigits-append ns ms (all .1) more)
+
+pub nineDigits-zeros : (n : ℕ) → NineDigits (replicate n 0)
+nineDigits-zeros zero = tt
+nineDigits-zeros (suc n) = (omega arith, nineDigits-zeros n)
 
 -- A letter that numbers follow is one of the two.
 pub letter-cases : (P : ℕ → Type 0) → P 83 → P 67 → (c : ℕ) → 0 < countOf c → P c

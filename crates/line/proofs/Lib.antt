@@ -1,4 +1,4 @@
--- Laws of the definitions (Decimal, Grammar, Automaton) and of the reader's loops (Steps); the claims and what they rest on.
+-- Laws of the definitions (Decimal, Grammar, Automaton) and of the reader's loops (Steps); the claims (Claims, Beginning) and what they rest on.
 pub mod Decimal
 pub mod Grammar
 pub mod Automaton
@@ -6,3 +6,4 @@ pub mod Steps
 pub mod Completeness
 pub mod Soundness
 pub mod Claims
+pub mod Beginning

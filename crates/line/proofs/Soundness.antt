@@ -21,7 +21,7 @@ use Rattle.basis.proofs.Choice.{and-left, and-right, and-none, or-left, or-righ
 use Rattle.text.proofs.Decimal.{decimal-digit}
 use Rattle.line.proofs.Decimal.{decimal-snoc, value-grows, value-nine}
 use Rattle.line.proofs.Automaton.{byte-digit}
-use Rattle.line.proofs.Grammar.{fields-snoc, nineDigits-snoc, numbersOf-wallOf, letterOf-wallOf}
+use Rattle.line.proofs.Grammar.{fields-snoc, nineDigits-append, numbersOf-wallOf, letterOf-wallOf}
 
 -- The letter asks for more numbers than these, which have 1 to 9 digits each.
 pub record Numbers (c : ℕ) (ns : List ℕ) : Type 0 where
@@ -33,6 +33,9 @@ pub record Digits (d v : ℕ) : Type 0 where
   pub few : d ≤ 9
   pub small : v < 10 ^ d
   pub proper : 1 < d → 0 < v
+
+pub digits-nine : {d v : ℕ} → Digits d v → v < 10 ^ 9
+digits-nine {d = d} {v = v} h = value-nine d v (h .few) (h .small)
 
 no-digits : Digits 0 0
 no-digits = record { few = omega arith; small = omega arith; proper = λ some. omega arith }
@@ -97,7 +100,7 @@ next-spells (inside c ns d v) l b h =
     let space : b ≡ 32 = search (and-left, eqb-true) in
     let some : 0 < d = search (and-left, and-right, ltb-true) in
     let more : length ns + 1 < countOf c = search (and-right, ltb-true) in (
-      record { more = rw length-append more; nine = nineDigits-snoc ns v (h .0 .nine) (value-nine d v (h .1 .few) (h .1 .small), tt) },
+      record { more = rw length-append more; nine = nineDigits-append ns (v ∷ []) (h .0 .nine) (digits-nine (h .1), tt) },
       no-digits,
       rw space (bytes-space d v c ns l some (h .2)),
     ))
@@ -138,7 +141,7 @@ answer-spells (inside c ns d v) l w h e =
     let letter : letterOf w ≡ c = ap letterOf same ∙ letterOf-wallOf all c some in
     let numbers : numbersOf w ≡ ns ++ v ∷ [] = ap numbersOf same ∙ numbersOf-wallOf all c some count in (
       h .2 ∙ rw (ne-eqb d 0 (λ e. omega arith), letter, numbers, fields-snoc),
-      rw numbers (nineDigits-snoc ns v (h .0 .nine) (value-nine d v (h .1 .few) (h .1 .small), tt)),
+      rw numbers (nineDigits-append ns (v ∷ []) (h .0 .nine) (digits-nine (h .1), tt)),
     ))
     (λ t read. not-read w read)
     e

@@ -1,6 +1,6 @@
 -- A line taken byte by byte. "Reading stops at the first wrong byte, in whichever number it stands": no byte leads out of `wrong`.
 use Prim.Native.Nat.{ℕ, _+_, _-_, _*_}
-use mathlib.Core.Bool.{cond, _&&_, _||_}
+use mathlib.Core.Bool.{Bool, true, false, cond, _&&_, _||_}
 use mathlib.Core.List.{List, [], _∷_, _++_}
 use lib.Dec.{leb, ltb, eqb}
 use lib.ListN.{length}
@@ -16,6 +16,13 @@ pub data State : Type 0 where
   inside : ℕ → List ℕ → ℕ → ℕ → State
   -- not the beginning of any line
   wrong : State
+
+-- Whether the bytes so far are not the beginning of any line.
+abbrev pub isWrong : State → Bool
+isWrong start = false
+isWrong (lettered letter) = false
+isWrong (inside letter numbers digits value) = false
+isWrong wrong = true
 
 -- The value of a digit's byte, and 10 for any other byte.
 unfoldable pub digitOf : ℕ → ℕ

@@ -7,7 +7,7 @@ ghost use Rattle.line.specs.Grammar.{countOf};
 ghost use Rattle.line.specs.Automaton.{digitOf};
 ghost use Rattle.storey.specs.Record.{storeyOf};
 ghost use Rattle.cellar.specs.Record.{cellarOf};
-ghost use Rattle.line.specs.Reading.{wallOf, readLine};
+ghost use Rattle.line.specs.Reading.{wallOf, NumbersInputs, countedReading};
 
 // How many digits a number has at most.
 const MOST_DIGITS: u64 = 9;
@@ -18,6 +18,12 @@ pub enum Reading {
     Read(Wall),
     // Not a line of the form.
     Malformed,
+}
+
+// What a line is read as, and how many of its bytes were taken: up to and including the first wrong one, or all.
+pub struct CountedReading {
+    pub reading: Reading,
+    pub taken: usize,
 }
 
 // How many numbers follow a letter, for none more than for `S`; 0 where no line begins with it.
@@ -96,18 +102,19 @@ fn wall(letter: u8, numbers: &[u64; StoreyWall::NUMBERS]) -> Wall
     wall
 }
 
-// Takes each byte once, front to back. A wrong byte leaves both loops, with fewer numbers than are wanted.
-pub fn read(line: &[u8]) -> Reading
-    ensures { λ reading. ⌜ reading ≡ readLine (now (line .entry)) ⌝ }
+// So that each way out of a reader is one line.
+fn counted(reading: Reading, taken: usize) -> CountedReading
+    ensures { λ counted. ⌜ counted ≡ record { reading = reading; taken = taken } ⌝ }
 {
-    if line.len() < 2 {
-        return Reading::Malformed;
-    }
-    let letter = line[0];
-    let wanted = count(letter);
-    if wanted == 0 || line[1] != b' ' {
-        return Reading::Malformed;
-    }
+    CountedReading { reading, taken }
+}
+
+// The numbers behind the letter and its space. Each byte is looked at once, as `line[at]`, and `at`, the count of bytes taken, is
+// raised at once. A wrong byte leaves both loops, with fewer numbers than are wanted.
+fn read_numbers(line: &[u8], letter: u8, wanted: usize) -> CountedReading
+    requires { ⌜ NumbersInputs (now line) letter wanted ⌝ }
+    ensures { λ counted. ⌜ counted ≡ countedReading (now (line .entry)) ⌝ }
+{
     let mut numbers = [0u64; StoreyWall::NUMBERS];
     let mut k = 0;
     let mut at = 2;
@@ -131,7 +138,25 @@ pub fn read(line: &[u8]) -> Reading
         k += 1;
     }
     if k < wanted {
-        return Reading::Malformed;
+        return counted(Reading::Malformed, at);
     }
-    Reading::Read(wall(letter, &numbers))
+    counted(Reading::Read(wall(letter, &numbers)), at)
+}
+
+// One pass, front to back, each byte looked at once at most: the letter, its space, the numbers.
+pub fn read(line: &[u8]) -> CountedReading
+    ensures { λ counted. ⌜ counted ≡ countedReading (now (line .entry)) ⌝ }
+{
+    if line.len() < 2 {
+        return counted(Reading::Malformed, line.len());
+    }
+    let letter = line[0];
+    let wanted = count(letter);
+    if wanted == 0 {
+        return counted(Reading::Malformed, 1);
+    }
+    if line[1] != b' ' {
+        return counted(Reading::Malformed, 2);
+    }
+    read_numbers(line, letter, wanted)
 }

@@ -1,4 +1,4 @@
--- Demands 1, 2 and 3 for the public entries: each by citing what was proved below.
+-- Demands 1, 2 and 3 and #104 for the public entries: each by citing what was proved below.
 use Prim.Native.Nat.{ℕ, _≤_, _^_}
 use mathlib.Core.Bool.{Bool, true, false}
 use mathlib.Core.List.{List, _++_}
@@ -22,7 +22,8 @@ use Rattle.line.specs.declared.Reading.{Reading}
 use Rattle.line.specs.declared.Reading.the-variants.{Read, Malformed}
 use Rattle.line.specs.Grammar.{lineOf}
 use Rattle.line.specs.Reading.{readLine, readingResult}
-use Rattle.line.proofs.Claims.{reading-complete, malformed-exactly}
+use Rattle.line.proofs.Claims.{reading-sound, reading-complete, malformed-exactly}
+use Rattle.line.proofs.Beginning.{taken-exactly}
 use Rattle.worksheet.specs.Cell.{cellBound}
 use Rattle.worksheet.specs.Entry.{Entry, entriesWall, TurnIntoTheirRecord}
 use Rattle.worksheet.specs.Row.{entries}
@@ -32,10 +33,12 @@ use Rattle.buffer.proofs.Overwrite.{overwrite-start}
 use Rattle.report.specs.Text.{resultText}
 use Rattle.report.specs.Reading.{readResult}
 use Rattle.report.proofs.Reading.{text-reads-back}
-use Rattle.wallcheck.specs.Entry.{lineResult, rowResult, cellsResult, Lent, lent}
+use Rattle.wallcheck.specs.Entry.{lineResult, countedResult, rowResult, cellsResult, Lent, lent}
 use Rattle.wallcheck.specs.Demands.{
   NotALine,
   LineOfRecord,
+  NoResultDiffers,
+  LineTakenExactly,
   IsTheLine,
   RowIsLine,
   CellsAreLine,
@@ -69,6 +72,20 @@ not-a-line line = (
   (λ one. malformed-exactly line .0 (only-malformed (readLine line) one)),
   (λ none. ap (readingResult check) (malformed-exactly line .1 none)),
 )
+
+pub no-result-differs : NoResultDiffers
+unfolding countedResult lineResult
+no-result-differs before others records line = let same = by-reading (readLine line) refl in (same, same)
+  where
+    by-reading : (r : Reading) → readLine line ≡ r → readingResult check r ≡ before line
+    by-reading (Read w) e =
+        let sound = reading-sound line w e in
+        sym (records w (sound .1)) ∙ ap before (sym (sound .0))
+    by-reading Malformed e = sym (others line .1 (malformed-exactly line .0 e))
+
+pub line-taken-exactly : LineTakenExactly
+unfolding countedResult
+line-taken-exactly = taken-exactly
 
 -- What turns into the record of its numbers, whether row or cells.
 module _ (es : List Entry) (own : TurnIntoTheirRecord es) where

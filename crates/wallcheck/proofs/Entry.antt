@@ -1,6 +1,7 @@
--- Laws of the entries: every result is bounded, so that its text fits 64 bytes.
+-- Laws of the entries: what is made of a reading; every result is bounded, so that its text fits 64 bytes.
 use Prim.Native.Nat.{ℕ, _≤_}
 use mathlib.Core.List.{List}
+use mathlib.Core.Path.{_≡_}
 use native.Mathlib.Omega.{arith}
 use lib.ListN.{length}
 use Rattle.basis.specs.declared.CheckResult.{CheckResult}
@@ -11,14 +12,22 @@ use Rattle.walls.specs.Check.{check}
 use Rattle.walls.proofs.Claims.{result-is-bounded}
 use Rattle.line.specs.declared.Reading.{Reading}
 use Rattle.line.specs.declared.Reading.the-variants.{Read, Malformed}
-use Rattle.line.specs.Reading.{readLine, readingResult}
+use Rattle.line.specs.declared.CountedReading.{CountedReading}
+use Rattle.line.specs.Reading.{readLine, readingResult, countedReading}
 use Rattle.worksheet.specs.declared.Row.{Row}
 use Rattle.worksheet.specs.declared.cells.Cells.{Cells}
 use Rattle.worksheet.specs.Row.{rowWall}
 use Rattle.worksheet.specs.Cells.{cellsWall}
 use Rattle.report.specs.Text.{resultText}
 use Rattle.report.proofs.Text.{text-fits}
-use Rattle.wallcheck.specs.Entry.{lineResult, rowResult, cellsResult}
+use Rattle.wallcheck.specs.declared.CountedResult.{CountedResult}
+use Rattle.wallcheck.specs.Entry.{lineResult, countedResult, rowResult, cellsResult}
+
+-- The result of what a line was read as, with its count.
+pub counted-result : (line : List ℕ) (c : CountedReading) (r : CheckResult) → c ≡ countedReading line → r ≡ readingResult check (c .reading)
+    → _≡_ {A = CountedResult} (record { result = r; taken = c .taken }) (countedResult line)
+unfolding countedReading countedResult lineResult
+counted-result line c r read checked = rw (checked, read)
 
 -- Every number of every result is below 10^9.
 

@@ -1,3 +1,3 @@
--- Laws of the entries, and demands 1 to 3.
+-- Laws of the entries, demands 1 to 3 and #104.
 pub mod Entry
 pub mod Demands

@@ -1,8 +1,9 @@
--- Demands 1, 2 and 3 for the public entries: each is a claim about `lineResult`, `rowResult`, `cellsResult` and `lent`, the definitions in their contracts.
+-- Demands 1, 2 and 3 and document 02, #104 for the public entries: each is a claim about `lineResult`, `countedResult`, `rowResult`, `cellsResult` and `lent`,
+-- the definitions in their contracts.
 use Prim.Native.Nat.{ℕ, _≤_, _<_}
 use mathlib.Core.Bool.{true}
 use mathlib.Core.List.{List, _++_}
-use mathlib.Core.Logic.{_↔_}
+use mathlib.Core.Logic.{_⊎_, _↔_}
 use mathlib.Core.Path.{_≡_}
 use lib.ListN.{length, drop}
 use Rattle.basis.specs.declared.CheckResult.{CheckResult}
@@ -18,6 +19,7 @@ use Rattle.walls.specs.declared.Wall.the-variants.{Storey, Cellar}
 use Rattle.walls.specs.Check.{numbersOf, parts, inRange, check}
 use Rattle.walls.specs.Claims.{Numbers}
 use Rattle.line.specs.Grammar.{NineDigits, lineOf}
+use Rattle.line.specs.Beginning.{UpToFirstWrong, AllWhereNone}
 use Rattle.worksheet.specs.declared.Row.{Row}
 use Rattle.worksheet.specs.declared.cells.Cells.{Cells}
 use Rattle.worksheet.specs.Entry.{Entry, HaveNumbers}
@@ -25,17 +27,35 @@ use Rattle.worksheet.specs.Row.{entries}
 use Rattle.worksheet.specs.Cells.{cellEntries}
 use Rattle.report.specs.Text.{resultText}
 use Rattle.report.specs.Reading.{readResult}
-use Rattle.wallcheck.specs.Entry.{lineResult, rowResult, cellsResult, lent}
+use Rattle.wallcheck.specs.Entry.{lineResult, countedResult, rowResult, cellsResult, lent}
 
 -- Demand 1: "Any line, worksheet row or output buffer of any content: .. a full result or the one refusal that document 01's order names."
 
 -- 1: "not a line of this form", exactly then. A line of the form has the result of its record, whose refusals stand in document 01's order.
+-- Both are said of any function from lines to results.
+abbrev pub RefusesOtherLines : (List ℕ → CheckResult) → Type 0
+RefusesOtherLines result =
+    (line : List ℕ) → (result line ≡ refusedWith 1) ↔ ((wall : Wall) → NineDigits (numbersOf wall) → line ≡ lineOf wall → ⊥)
+
+abbrev pub ChecksRecords : (List ℕ → CheckResult) → Type 0
+ChecksRecords result = (wall : Wall) → NineDigits (numbersOf wall) → result (lineOf wall) ≡ check wall
+
 abbrev pub NotALine : Type 0
-NotALine =
-    (line : List ℕ) → (lineResult line ≡ refusedWith 1) ↔ ((wall : Wall) → NineDigits (numbersOf wall) → line ≡ lineOf wall → ⊥)
+NotALine = RefusesOtherLines lineResult
 
 abbrev pub LineOfRecord : Type 0
-LineOfRecord = (wall : Wall) → NineDigits (numbersOf wall) → lineResult (lineOf wall) ≡ check wall
+LineOfRecord = ChecksRecords lineResult
+
+-- Document 02, #104: "No result differs from before." The two leave no choice: what answered lines by them before gave every line the result that the
+-- entries give it, with the count or without.
+abbrev pub NoResultDiffers : Type 0
+NoResultDiffers =
+    (before : List ℕ → CheckResult) → RefusesOtherLines before → ChecksRecords before →
+    (line : List ℕ) → (lineResult line ≡ before line) × (countedResult line .result ≡ before line)
+
+-- "how many bytes it has taken: up to and including the first wrong byte, or all where there is none"
+abbrev pub LineTakenExactly : Type 0
+LineTakenExactly = (line : List ℕ) → UpToFirstWrong line (countedResult line .taken) ⊎ AllWhereNone line (countedResult line .taken)
 
 -- "Its result equals that of the line with the same numbers.": of what stands in the places of a record's numbers.
 abbrev pub IsTheLine : List Entry → CheckResult → Type 0

@@ -8,17 +8,22 @@ use Rattle.basis.specs.declared.CheckResult.{CheckResult}
 use Rattle.basis.specs.Result.{refusedWith}
 use Rattle.walls.specs.declared.Wall.the-variants.{Storey}
 use Rattle.walls.specs.Check.{check}
-use Rattle.line.specs.Reading.{readLine, readingResult}
+use Rattle.line.specs.Reading.{readLine, readingResult, taken}
 use Rattle.worksheet.specs.declared.Row.{Row}
 use Rattle.worksheet.specs.Row.{rowWall}
 use Rattle.worksheet.specs.declared.cells.Cells.{Cells}
 use Rattle.worksheet.specs.Cells.{cellsWall}
 use Rattle.buffer.specs.Overwrite.{overwrite}
 use Rattle.report.specs.Text.{resultText}
+use Rattle.wallcheck.specs.declared.CountedResult.{CountedResult}
 
 -- A line: refusal 1 where it is not of the form, else the result of its record.
 unfoldable pub lineResult : List ℕ → CheckResult
 lineResult line = readingResult check (readLine line)
+
+-- Document 02, #104: the same result, "and also .. how many bytes it has taken".
+unfoldable pub countedResult : List ℕ → CountedResult
+countedResult line = record { result = lineResult line; taken = taken line }
 
 -- "Its result equals that of the line with the same numbers." A cell that is no whole number is in no range, hence refusal 2.
 abbrev pub rowResult : Row → CheckResult
@@ -30,7 +35,7 @@ cellsResult cells = check (Storey (cellsWall cells))
 
 -- Which rules a result is computed by: 100 for document 01, then the number of the last request that has landed.
 abbrev pub edition : ℕ
-edition = 103
+edition = 104
 
 -- What is handed back and what a lent buffer holds then.
 pub record Lent : Type 0 where

@@ -1,10 +1,10 @@
 // The C interface of include/wallcheck.h. A slice is a pointer and a length there.
 ghost use mathlib.Core.Path.{_≡_};
-ghost use Rattle.wallcheck.specs.Entry.{lineResult, cellsResult, lent, edition};
+ghost use Rattle.wallcheck.specs.Entry.{lineResult, countedResult, cellsResult, lent, edition};
 use basis::CheckResult;
 use worksheet::cells::Cells;
 
-const EDITION: u64 = 103;
+const EDITION: u64 = 104;
 
 // Which rules a result is computed by. Offices file it with their results.
 #[no_mangle]
@@ -19,6 +19,13 @@ pub extern "C" fn wallcheck_line(line: &[u8]) -> CheckResult
     ensures { λ result. ⌜ result ≡ lineResult (now (line .entry)) ⌝ }
 {
     crate::check_line(line)
+}
+
+#[no_mangle]
+pub extern "C" fn wallcheck_line_taken(line: &[u8]) -> crate::CountedResult
+    ensures { λ counted. ⌜ counted ≡ countedResult (now (line .entry)) ⌝ }
+{
+    crate::check_line_taken(line)
 }
 
 #[no_mangle]

@@ -1,6 +1,6 @@
 //! Single calls over lines in memory.
 
-use plain::{fast, simple, CheckResult, Row};
+use plain::{fast, simple, CheckResult, Reading, Row};
 use std::hint::black_box;
 use std::time::Instant;
 use wallcheck::Cells;
@@ -27,6 +27,13 @@ fn from_library(result: wallcheck::CheckResult) -> CheckResult {
         load,
         resistance,
         spare,
+    }
+}
+
+fn reading_from_library(reading: wallcheck::Reading) -> Reading {
+    Reading {
+        result: from_library(reading.result),
+        taken: reading.taken,
     }
 }
 
@@ -60,13 +67,16 @@ fn row_of(line: &[u8]) -> Option<(Cells, Row)> {
     Some((row.into(), row))
 }
 
-/// Whether the calls of `measure` agree on a line, in the result and in the bytes of a lent buffer.
+/// Whether the calls of `measure` agree on a line, in the result, in the count of bytes taken and in the bytes of a
+/// lent buffer.
 fn agree_on_line(line: &[u8]) -> bool {
     let mut out = [[0xA5; 64]; 3];
     from_library(wallcheck::check_line_into(line, &mut out[0]))
         == fast::check_line_into(line, &mut out[1])
         && fast::check_line(line) == simple::check_line_into(line, &mut out[2])
         && from_library(wallcheck::check_line(line)) == simple::check_line(line)
+        && reading_from_library(wallcheck::check_line_taken(line)) == fast::check_line_taken(line)
+        && fast::check_line_taken(line) == simple::check_line_taken(line)
         && out[0] == out[1]
         && out[1] == out[2]
 }
@@ -89,13 +99,21 @@ pub fn agree(lines: &[&[u8]]) -> bool {
 }
 
 /// Nanoseconds of one call in one pass. The result is lent and not moved, since a copy of it would be timed too.
-fn pass<T, R>(items: &[T], mut call: impl FnMut(&T) -> R) -> f64 {
+pub fn pass<T, R>(items: &[T], mut call: impl FnMut(&T) -> R) -> f64 {
     let start = Instant::now();
     for item in items {
         let result = call(black_box(item));
         black_box(&result);
     }
     start.elapsed().as_nanos() as f64 / items.len() as f64
+}
+
+/// The median of each list.
+pub fn medians<const N: usize>(times: [Vec<f64>; N]) -> [f64; N] {
+    times.map(|mut times| {
+        times.sort_by(f64::total_cmp);
+        times[times.len() / 2]
+    })
 }
 
 /// The three calls in turn in each pass, so that a busy machine slows all alike; the medians of the passes.
@@ -113,10 +131,7 @@ fn time<T, A, B, C>(
         times[1].push(pass(items, &mut fast));
         times[2].push(pass(items, &mut simple));
     }
-    let [library, fast, simple] = times.map(|mut times: Vec<f64>| {
-        times.sort_by(f64::total_cmp);
-        times[passes / 2]
-    });
+    let [library, fast, simple] = medians(times);
     Times {
         name,
         library,
@@ -137,6 +152,14 @@ pub fn measure(passes: usize, lines: &[&[u8]]) -> Vec<Times> {
             |line| wallcheck::check_line(line),
             |line| fast::check_line(line),
             |line| simple::check_line(line),
+        ),
+        time(
+            "line, bytes taken",
+            passes,
+            lines,
+            |line| wallcheck::check_line_taken(line),
+            |line| fast::check_line_taken(line),
+            |line| simple::check_line_taken(line),
         ),
         time(
             "line into a buffer",

@@ -6,7 +6,12 @@
 //! SCHEDULE is the path of the schedule program; `simple` and `fast` stand beside this program. Without numbers a
 //! million lines are used and each program runs 15 times. Ends with status 1 if an output differs, or if a line costs
 //! more in a long schedule than in a short one.
+//!
+//! It runs in the folder of the repository. Where WALLCHECK_BEFORE names an earlier checkout in which `make bench` has
+//! run, its library and program are compared with those of this folder, also as ratios in one run. Results that differ
+//! from the earlier ones are told and are no failure.
 
+mod before;
 mod calls;
 mod input;
 mod programs;
@@ -20,6 +25,9 @@ use std::time::Duration;
 
 /// A line in a schedule of all lines may cost this many times a line in one of a tenth of them; the rest is noise.
 const GROWTH_LIMIT: f64 = 1.25;
+
+/// The stored schedule, from the folder of the repository.
+const STORED: &str = "crates/schedule/stdin";
 
 /// Single calls go over this many lines.
 const CALL_LINES: usize = 100_000;
@@ -165,24 +173,84 @@ fn bench_programs(
     ) && same)
 }
 
+/// The lines of single calls.
+fn call_lines(text: &[u8], lines: usize) -> Vec<&[u8]> {
+    text.split(|&byte| byte == b'\n')
+        .take(CALL_LINES.min(lines))
+        .collect()
+}
+
+/// The program and the library of an earlier checkout beside `schedule` and the library of this folder.
+fn bench_before(
+    earlier: &Path,
+    schedule: &Program,
+    files: &Files,
+    lines: usize,
+    runs: usize,
+) -> io::Result<()> {
+    let programs = [
+        Program {
+            name: "schedule",
+            path: schedule.path.clone(),
+        },
+        Program {
+            name: "before",
+            path: earlier.join("target/bin/schedule"),
+        },
+    ];
+    println!(
+        "before and after, {} against this folder",
+        earlier.display()
+    );
+    print_programs(
+        &programs,
+        &run_all(&programs, files, &files.long, runs)?,
+        lines,
+    );
+    checked(
+        "the outputs are equal byte for byte",
+        same_outputs(&programs, files, lines)?,
+    );
+    let text = fs::read(&files.long)?;
+    before::calls(earlier, &call_lines(&text, lines), runs)
+}
+
 fn bench_calls(files: &Files, lines: usize, passes: usize) -> io::Result<bool> {
     let text = fs::read(&files.long)?;
-    let lines: Vec<&[u8]> = text
-        .split(|&byte| byte == b'\n')
-        .take(CALL_LINES.min(lines))
-        .collect();
+    let lines = call_lines(&text, lines);
     println!(
         "single calls, {} lines, median of {passes} passes",
         lines.len()
     );
     print_calls(&calls::measure(passes, &lines));
+    // Of the benchmark's lines a wrong one ends in a space; the stored ones are wrong in many ways.
+    let stored = fs::read(STORED)?;
+    let stored = call_lines(&stored, CALL_LINES);
     Ok(checked(
-        "the calls agree on every line and row",
-        calls::agree(&lines),
+        "the calls agree on every line and row, also on the stored ones",
+        calls::agree(&lines) && calls::agree(&stored),
     ))
 }
 
+/// The earlier checkout, where one is named.
+fn earlier_checkout() -> io::Result<Option<PathBuf>> {
+    let named = std::env::var_os("WALLCHECK_BEFORE").filter(|path| !path.is_empty());
+    let Some(earlier) = named.map(PathBuf::from) else {
+        return Ok(None);
+    };
+    for needed in ["dist/libwallcheck.so", "target/bin/schedule"] {
+        if !earlier.join(needed).exists() {
+            return Err(io::Error::other(format!(
+                "{} has no {needed}: run `make bench` there first",
+                earlier.display()
+            )));
+        }
+    }
+    Ok(Some(earlier))
+}
+
 fn bench(schedule: &str, lines: usize, runs: usize) -> io::Result<bool> {
+    let earlier = earlier_checkout()?;
     let here = std::env::current_exe()?;
     let beside = |name| Program {
         name,
@@ -199,6 +267,9 @@ fn bench(schedule: &str, lines: usize, runs: usize) -> io::Result<bool> {
     let files = Files::create(lines)?;
     let programs_good = bench_programs(&programs, &files, lines, runs)?;
     let calls_good = bench_calls(&files, lines, runs)?;
+    if let Some(earlier) = earlier {
+        bench_before(&earlier, &programs[0], &files, lines, runs)?;
+    }
     Ok(programs_good && calls_good)
 }
 

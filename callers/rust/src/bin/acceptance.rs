@@ -1,17 +1,18 @@
 //! Runs the acceptance cases against the library: each line, each storey record as a worksheet row too, and each row,
-//! alone and into lent buffers of several lengths.
+//! alone and into lent buffers of several lengths; of each line also the count of bytes taken.
 //!
 //!     WALLCHECK_LIB_DIR=.. cargo run --release --bin acceptance
 
 use std::process::exit;
 use std::ptr::{null, null_mut};
 use wallcheck::{
-    check_line, check_line_into, check_row, check_row_into, edition, raw, Cells, CheckResult,
+    check_line, check_line_into, check_line_taken, check_row, check_row_into, edition, raw, Cells,
+    CheckResult, Reading,
 };
 
 const LINES: &str = include_str!("../../../cases.txt");
 const ROWS: &str = include_str!("../../../rows.txt");
-const EDITION: u64 = 103;
+const EDITION: u64 = 104;
 const OUT_LENGTHS: [usize; 4] = [0, 63, 64, 100];
 const FILL: u8 = 0xA5;
 
@@ -89,12 +90,26 @@ fn result_of(numbers: &str) -> CheckResult {
     }
 }
 
-/// Each case of a file: what stands before the tab, with the result behind it.
-fn cases(file: &'static str) -> impl Iterator<Item = (&'static str, CheckResult)> {
+/// Each case of a file: what stands before the first tab, with the columns behind it.
+fn cases(file: &'static str) -> impl Iterator<Item = (&'static str, &'static str)> {
     let cases = file.lines().filter_map(|row| row.split_once('\t'));
-    cases
-        .filter(|(case, _)| !case.starts_with('#'))
-        .map(|(case, numbers)| (case, result_of(numbers)))
+    cases.filter(|(case, _)| !case.starts_with('#'))
+}
+
+/// The result of a line and how many of its bytes are taken: behind refusal 1 a column says it, any other line has all
+/// its bytes taken.
+fn reading_of(line: &str, columns: &str) -> Reading {
+    let (numbers, count) = match columns.split_once('\t') {
+        Some((numbers, count)) => (numbers, Some(count)),
+        None => (columns, None),
+    };
+    let result = result_of(numbers);
+    assert_eq!(result.refusal == 1, count.is_some(), "count of {line}");
+    let taken = match count {
+        Some(count) => count.parse().expect("a count"),
+        None => line.len() as u64,
+    };
+    Reading { result, taken }
 }
 
 /// The row of 19 numbers with a space between.
@@ -114,8 +129,14 @@ fn run_row(tally: &mut Tally, row: &str, cells: Cells, expected: CheckResult) {
     });
 }
 
-fn run_line_case(tally: &mut Tally, line: &str, expected: CheckResult) {
+fn run_line_case(tally: &mut Tally, line: &str, reading: Reading) {
+    let expected = reading.result;
     tally.count("line", line, check_line(line.as_bytes()) == expected);
+    tally.count(
+        "line with the bytes taken",
+        line,
+        check_line_taken(line.as_bytes()) == reading,
+    );
     tally.count_into("line into a buffer", line, expected, |out| {
         check_line_into(line.as_bytes(), out)
     });
@@ -129,6 +150,12 @@ fn run_line_case(tally: &mut Tally, line: &str, expected: CheckResult) {
 fn run_null(tally: &mut Tally) {
     let line = unsafe { raw::wallcheck_line(null(), 0) };
     tally.count("line", "null", line == refused(1));
+    let reading = unsafe { raw::wallcheck_line_taken(null(), 0) };
+    let expected = Reading {
+        result: refused(1),
+        taken: 0,
+    };
+    tally.count("line with the bytes taken", "null", reading == expected);
     tally.count_into("line into a buffer", "null", refused(1), |out| unsafe {
         raw::wallcheck_line_into(null(), 0, out.as_mut_ptr(), out.len())
     });
@@ -144,11 +171,11 @@ fn run_null(tally: &mut Tally) {
 
 fn main() {
     let mut tally = Tally::default();
-    for (line, expected) in cases(LINES) {
-        run_line_case(&mut tally, line, expected);
+    for (line, columns) in cases(LINES) {
+        run_line_case(&mut tally, line, reading_of(line, columns));
     }
-    for (row, expected) in cases(ROWS) {
-        run_row(&mut tally, row, cells_of(row), expected);
+    for (row, numbers) in cases(ROWS) {
+        run_row(&mut tally, row, cells_of(row), result_of(numbers));
     }
     run_null(&mut tally);
     tally.count("edition", "", edition() == EDITION);

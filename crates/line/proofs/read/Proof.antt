@@ -1,188 +1,49 @@
--- `line::read` meets its contract. At the head of each loop the whole line is read as what `run` makes of the bytes that are left,
--- from the state in hand. Each way through the code takes one byte, and proofs/Steps says that it keeps this. Assumes nothing.
-use Prim.Native.Nat.{_-_, _≤_, _<_}
-use mathlib.Core.Logic.{⊎-elim}
-use mathlib.Core.Path.{sym, ap, _∙_}
-use native.Mathlib.Omega.{arith}
-use denote.Ref.{now}
-use borrow.Author.Tests.{ltb-true, ltb-false, lt-ltb, not-true, not-false}
-use lib.ListN.{length}
-use Rattle.line.specs.declared.Reading.the-variants.{Read}
-use Rattle.line.specs.Grammar.{countOf}
-use Rattle.basis.proofs.Choice.{and-left, and-right, or-left}
-use Rattle.line.proofs.Steps.{
-  Between,
-  Inside,
-  value-bound,
-  short-line,
-  letter-wrong,
-  space-wrong,
-  opened,
-  index,
-  missing,
-  begun,
-  number-ended,
-  digit-taken,
-  digit-wrong,
-  line-ended,
-  all-read,
-}
+-- `line::read` meets its contract: a line is shorter than letter and space, one of these is wrong, or the numbers follow.
+use borrow.Author.Needs.{needs}
+use mathlib.Core.Path.{sym, _∙_}
+use Rattle.line.proofs.Steps.{short-line, letter-wrong, space-wrong}
 use Rattle.line.proofs.read.Statement.{statement}
 use Rattle.line.proofs.read.Tie as tie
 
-abbrev Inv-digits : tie.InvT-digits
-Inv-digits line letter wanted numbers k at₀ digits₀ value₀ at digits value = Inside line letter numbers k at digits value
+returns : tie.Need-returns
+returns c = c .counted .ensures ∙ sym (short-line _ (c .before .if1 .taken))
 
-abbrev μ-digits : tie.MeasureT-digits
-μ-digits line letter wanted numbers k at₀ digits₀ value₀ at digits value = length line - at
+shared-slice-read-letter : tie.Need-shared-slice-read-letter
+shared-slice-read-letter c = search needs
 
-abbrev Inv-numbers : tie.InvT-numbers
-Inv-numbers line letter wanted numbers₀ k₀ at₀ numbers k at = Between line letter wanted numbers k at
-
-abbrev μ-numbers : tie.MeasureT-numbers
-μ-numbers line letter wanted numbers₀ k₀ at₀ numbers k at = wanted - k
-
--- In a turn of the outer loop a number is wanted, a byte is left, and the array has a place for the number.
-turn : (c : tie.In-numbers Inv-digits μ-digits Inv-numbers μ-numbers)
-    → (c .before .numbers .k < c .before .before .before .before .before .count .result)
-    × (c .before .numbers .at < length (now (c .before .before .before .before .before .before .before .before .before .args .line)))
-turn c = (search (and-left, ltb-true, c .numbers-test .taken), search (and-right, ltb-true, c .numbers-test .taken))
-
-place : (c : tie.In-numbers Inv-digits μ-digits Inv-numbers μ-numbers) → c .before .numbers .k < countOf 83
-place c = index (c .before .numbers .inv) (turn c .0)
-
-returns : tie.Need-returns Inv-digits μ-digits Inv-numbers μ-numbers
-returns c = sym (short-line _ (c .if1 .taken))
-
-shared-slice-read-letter : tie.Need-shared-slice-read-letter Inv-digits μ-digits Inv-numbers μ-numbers
-shared-slice-read-letter c = omega arith
-
-count-requires : tie.Need-count-requires Inv-digits μ-digits Inv-numbers μ-numbers
-count-requires c κs = tt
-
-shared-slice-read-if3 : tie.Need-shared-slice-read-if3 Inv-digits μ-digits Inv-numbers μ-numbers
-shared-slice-read-if3 c = omega arith
-
-returns-2 : tie.Need-returns-2 Inv-digits μ-digits Inv-numbers μ-numbers
+returns-2 : tie.Need-returns-2
 returns-2 c =
-    let known = c .before .count .ensures in
-    let long = c .before .before .before .if1 .left in
-    sym (⊎-elim
-    (λ w. letter-wrong _ _ known long (w .taken))
-    (λ w. space-wrong _ _ known long (w .0 .left) (not-true _ (w .2 .taken)))
-    (c .if2 .came))
+    let known = c .before .before in
+    c .counted2 .ensures ∙ sym (letter-wrong _ _ (known .count .ensures) (known .before .before .if1 .left) (c .before .if2 .taken))
 
-numbers-holds : tie.Need-numbers-holds Inv-digits μ-digits Inv-numbers μ-numbers
-unfolding countOf
-numbers-holds c =
-    opened _ _ (c .before .before .before .count .ensures) (omega arith) (c .before .before .if2 .left)
-    _ (omega arith) (not-false _ (c .if3 .left))
+shared-slice-read-if3 : tie.Need-shared-slice-read-if3
+shared-slice-read-if3 c = search needs
 
-digits-holds : tie.Need-digits-holds Inv-digits μ-digits Inv-numbers μ-numbers
-digits-holds c = begun (c .before .numbers .inv) (turn c .0) (turn c .1)
-
-shared-slice-read-byte : tie.Need-shared-slice-read-byte Inv-digits μ-digits Inv-numbers μ-numbers
-shared-slice-read-byte c = omega arith
-
-add-at : tie.Need-add-at Inv-digits μ-digits Inv-numbers μ-numbers
-add-at c = omega arith
-
-add-if4 : tie.Need-add-if4 Inv-digits μ-digits Inv-numbers μ-numbers
-unfolding countOf
-add-if4 c = omega (arith, place (c .before .before .before))
-
-digit-requires : tie.Need-digit-requires Inv-digits μ-digits Inv-numbers μ-numbers
-digit-requires c κs = tt
-
-mul-value : tie.Need-mul-value Inv-digits μ-digits Inv-numbers μ-numbers
-mul-value c = omega (arith, value-bound (c .before .before .before .before .before .digits .inv))
-
-add-value : tie.Need-add-value Inv-digits μ-digits Inv-numbers μ-numbers
-add-value c =
-    let digit : c .before .digit .result ≤ 9 = search (or-left, ltb-false, c .if5 .left) in
-    omega (arith, value-bound (c .before .before .before .before .before .digits .inv))
-
-add-digits : tie.Need-add-digits Inv-digits μ-digits Inv-numbers μ-numbers
-add-digits c = omega arith
-
-digits-less : tie.Need-digits-less Inv-digits μ-digits Inv-numbers μ-numbers
-digits-less c = omega arith
-
-digits-again : tie.Need-digits-again Inv-digits μ-digits Inv-numbers μ-numbers
-digits-again c =
-    let in-digits = c .before .before .before .before in
-    let in-numbers = in-digits .before .before in
-    digit-taken (in-numbers .before .numbers .inv) (turn in-numbers .0) (in-digits .before .digits .inv) (in-digits .digits-test .taken)
-    (c .before .digit .ensures) (c .before .before .if4 .left) (c .if5 .left)
-
-mul-numbers : tie.Need-mul-numbers Inv-digits μ-digits Inv-numbers μ-numbers
-unfolding countOf
-mul-numbers c = omega (arith, place (c .before .before))
-
-array-write-numbers : tie.Need-array-write-numbers Inv-digits μ-digits Inv-numbers μ-numbers
-unfolding countOf
-array-write-numbers c = place (c .before .before)
-
-add-k : tie.Need-add-k Inv-digits μ-digits Inv-numbers μ-numbers
-unfolding countOf
-add-k c = omega (arith, place (c .before .before))
-
-numbers-less : tie.Need-numbers-less Inv-digits μ-digits Inv-numbers μ-numbers
-numbers-less c = omega (arith, turn (c .before .before))
-
-numbers-again : tie.Need-numbers-again Inv-digits μ-digits Inv-numbers μ-numbers
-numbers-again c =
-    let between = c .before .before .before .numbers .inv in
-    let wanting = turn (c .before .before) .0 in
-    ⊎-elim
-    (λ w. rw (w .1) (line-ended between wanting (c .before .digits .inv) (w .0 .left)))
-    (λ w. rw (w .3) (number-ended between wanting (c .before .digits .inv) (w .0 .taken) (w .2 .taken)))
-    (c .digits-test .came)
-
-returns-3 : tie.Need-returns-3 Inv-digits μ-digits Inv-numbers μ-numbers
+returns-3 : tie.Need-returns-3
 returns-3 c =
-    let between = c .before .before .numbers .inv in
-    let wanting = c .if6 .taken in
-    sym (⊎-elim
-    (λ w. missing between wanting (ltb-false _ _ (rw (lt-ltb _ _ wanting) at (w .0 .left))))
-    (λ w. digit-wrong between wanting (w .1 .inv) (w .2 .taken) (w .5 .ensures) (w .4 .left) (w .6 .taken))
-    (c .before .numbers-test .came))
+    let some = c .before .before .before in
+    let known = some .before in
+    c .counted3 .ensures
+    ∙ sym (space-wrong _ _ (known .count .ensures) (known .before .before .if1 .left) (some .if2 .left) (c .before .if3 .taken))
 
-wall-requires : tie.Need-wall-requires Inv-digits μ-digits Inv-numbers μ-numbers
-wall-requires c κs = tt
+read-numbers-requires : tie.Need-read-numbers-requires
+read-numbers-requires c κs = search needs
 
-returns-4 : tie.Need-returns-4 Inv-digits μ-digits Inv-numbers μ-numbers
-returns-4 c = ap Read (c .wall .ensures) ∙ sym (all-read (c .before .before .before .before .numbers .inv) (c .before .before .if6 .left))
+returns-4 : tie.Need-returns-4
+returns-4 c = search needs
 
 pub read-spec : {M : Type 1} → statement M
 read-spec =
     tie.close
     (tie.spec
-    Inv-digits
-    μ-digits
-    Inv-numbers
-    μ-numbers
+    (λ c κs. tt)
     returns
     shared-slice-read-letter
-    count-requires
-    shared-slice-read-if3
+    (λ c κs. tt)
+    (λ c κs. tt)
     returns-2
-    numbers-holds
-    digits-holds
-    shared-slice-read-byte
-    add-at
-    add-if4
-    digit-requires
-    mul-value
-    add-value
-    add-digits
-    digits-less
-    digits-again
-    mul-numbers
-    array-write-numbers
-    add-k
-    numbers-less
-    numbers-again
+    shared-slice-read-if3
+    (λ c κs. tt)
     returns-3
-    wall-requires
+    read-numbers-requires
     returns-4)
