@@ -180,11 +180,11 @@ impl CellarWall {
 
     // The number of the first of refusals 14 to 17 and 11 that applies, or 0. The last is asked first, so that each takes the place of those behind it.
     fn limit(self) -> u64
-        requires { in_range self ≡ true }
         ensures { result ≡ first_of (limits self) }
     {
-        let fill_too_high = CellarWall::LIMIT_FILL_TWENTIETHS * self.height
-            < CellarWall::WHOLE_TWENTIETHS * self.fill;
+        // in 128 bits the products fit, whatever the record
+        let fill_too_high = CellarWall::LIMIT_FILL_TWENTIETHS as u128 * (self.height as u128)
+            < CellarWall::WHOLE_TWENTIETHS as u128 * self.fill as u128;
         let limit = basis::first_refusal(11, self.strength < CellarWall::LIMIT_LEAST_STRENGTH, 0);
         let limit = basis::first_refusal(17, CellarWall::LIMIT_GROUND < self.groundload, limit);
         let limit = basis::first_refusal(16, fill_too_high, limit);

@@ -162,9 +162,9 @@ line_numbers wall passed = (
 
 pub storey_lines : StoreyLines
 storey_lines first second passed passed' pair accepted =
-    let first-is = in_range_line (Storey first) passed in
+    let first_is = in_range_line (Storey first) passed in
     let second_is = in_range_line (Storey second) passed' in
-    rw (first-is, second_is) (storey_comparison first second passed passed' pair (rw first-is at accepted))
+    rw (first_is, second_is) (storey_comparison first second passed passed' pair (rw first_is at accepted))
 
 pub cellar_lines : CellarLines
 cellar_lines low high wall nine_low nine_high accepted_low accepted_high between =
