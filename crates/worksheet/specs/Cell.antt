@@ -1,5 +1,5 @@
 -- "Each cell must be exactly a whole number in its range; negative zero counts as 0."
--- A cell is an f64. Its exact value is what `lib.Ieee` says: `fin s m e` is m * 2 ^ e, negative where s is true, and 2 ^ e is the fraction up e / down e.
+-- A cell is an f64. Its exact value is what the library's `Float.Ieee` says: `fin s m e` is m * 2 ^ e, negative where s is true, and 2 ^ e is the fraction up e / down e.
 use Rattle.std.specs.Prelude.{◌≡◌, ℕ, ◌-◌, ◌*◌, ◌/◌, ◌%◌, ◌^◌, ◌<◌, Bool, true, cond, not, ◌&&◌, ◌||◌, T, ◌↔◌, ◌==◌, nat_lt, Float}
 use Rattle.std.specs.Float.{nan, inf, fin, binary64}
 use Rattle.std.specs.Float.Ieee.{up, down, fits}
