@@ -28,6 +28,15 @@ pub numbers-init : goal.numbers-init
 unfolding count_of
 numbers-init c = opened _ _ _ c.requires _ (omega arith)
 
+pub numbers-preserved : goal.numbers-preserved
+numbers-preserved c =
+    let another = wanting _ _ _ _ c.numbers-test.true in
+    elim c.digits-test.branch [
+      | else-digits-test w ↦ rw w.at-is (line_ended c.numbers.invariant another c.digits.invariant w.digits-test.false)
+      | then-digits-test+then-byte-digits w ↦
+          rw w.at-is (number_ended c.numbers.invariant another c.digits.invariant w.digits-test.true w.if-byte-digits.true)
+    ]
+
 pub digits-preserved : goal.digits-preserved
 digits-preserved c =
     digit_taken c.numbers.invariant (wanting _ _ _ _ c.numbers-test.true) c.digits.invariant c.digits-test.true c.digit-next.ensures
@@ -41,14 +50,15 @@ pub bounds-numbers-k : goal.bounds-numbers-k
 unfolding count_of
 bounds-numbers-k c = index c.numbers.invariant (wanting _ _ _ _ c.numbers-test.true)
 
-pub numbers-preserved : goal.numbers-preserved
-numbers-preserved c =
-    let another = wanting _ _ _ _ c.numbers-test.true in
-    elim c.digits-test.branch [
-      | else-digits-test w ↦ rw w.at-is (line_ended c.numbers.invariant another c.digits.invariant w.digits-test.false)
-      | then-digits-test+then-byte-digits w ↦
-          rw w.at-is (number_ended c.numbers.invariant another c.digits.invariant w.digits-test.true w.if-byte-digits.true)
-    ]
+pub returns : goal.returns
+returns c =
+    c.counted-2.ensures
+    ∙ ap (λ (w : Wall). counted (Read w) c.numbers-test.at) c.wall.ensures
+    ∙ sym (elim c.numbers-test.branch [
+      | else-numbers-test w ↦ rw w.at-is (all_read c.numbers.invariant c.if-k-wanted.false)
+      | then-numbers-test+then-digits-test+else-byte-digits+then-next-digits w ↦
+          let another : c.numbers.k < c.args.wanted = wanting _ _ _ _ w.numbers-test.true in absurd (omega arith)
+    ])
 
 pub returns-then-k-wanted : goal.returns-then-k-wanted
 returns-then-k-wanted c =
@@ -60,14 +70,4 @@ returns-then-k-wanted c =
       | then-numbers-test+then-digits-test+else-byte-digits+then-next-digits w ↦
           rw w.at-is (digit_wrong c.numbers.invariant another w.digits.invariant w.digits-test.true w.digit-next.ensures w.if-byte-digits.false
           w.if-next-digits.true)
-    ])
-
-pub returns : goal.returns
-returns c =
-    c.counted-2.ensures
-    ∙ ap (λ (w : Wall). counted (Read w) c.numbers-test.at) c.wall.ensures
-    ∙ sym (elim c.numbers-test.branch [
-      | else-numbers-test w ↦ rw w.at-is (all_read c.numbers.invariant c.if-k-wanted.false)
-      | then-numbers-test+then-digits-test+else-byte-digits+then-next-digits w ↦
-          let another : c.numbers.k < c.args.wanted = wanting _ _ _ _ w.numbers-test.true in absurd (omega arith)
     ])

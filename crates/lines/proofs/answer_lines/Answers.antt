@@ -9,15 +9,15 @@ use Rattle.lines.proofs.answer_lines.Goals as goal
 pub loop-left-init : goal.loop-left-init
 loop-left-init c = answering_none _ _
 
-pub slice_bounds-check_line-end : goal.slice_bounds-check_line-end
-slice_bounds-check_line-end c =
-    let some = ended_within _ _ c.loop-left.invariant.within (λ all. c.if-end-block.false (c.line_end-end.ensures ∙ all)) in
-    omega (arith, line_within _ c.loop-left.invariant c.loop-left-test.true c.line_end-end.ensures some)
-
 pub loop-left-preserved : goal.loop-left-preserved
 loop-left-preserved c =
     let some = ended_within _ _ c.loop-left.invariant.within (λ all. c.if-end-block.false (c.line_end-end.ensures ∙ all)) in
     answering_write _ c.loop-left.invariant c.loop-left-test.true c.line_end-end.ensures some _ c.check_line-result.ensures c.write-written.ensures
+
+pub slice_bounds-check_line-end : goal.slice_bounds-check_line-end
+slice_bounds-check_line-end c =
+    let some = ended_within _ _ c.loop-left.invariant.within (λ all. c.if-end-block.false (c.line_end-end.ensures ∙ all)) in
+    omega (arith, line_within _ c.loop-left.invariant c.loop-left-test.true c.line_end-end.ensures some)
 
 pub returns-after-loop-left-clause-taken : goal.returns-after-loop-left-clause-taken
 returns-after-loop-left-clause-taken c = (answering_done c.loop-left.invariant (ended_length_zero _ _ c.loop-left-test.false)).0
