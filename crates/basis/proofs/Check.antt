@@ -11,7 +11,7 @@ use Rattle.basis.specs.Refusal.{first_or, first_of, NoneApplies}
 use Rattle.basis.specs.Result.{refused_with, Below, SpareSigned}
 use Rattle.basis.specs.Check.{Parts, reported, result_of, every_number, every_refusal, AcceptedExactly, ReportedNumbers, SpareIsSigned, ResultIsBounded}
 use Rattle.basis.proofs.Choice.{and_left, and_right}
-use Rattle.basis.proofs.Refusal.{first_or_cases, first_or_none, first_or_some, none_first_of, every_any}
+use Rattle.basis.proofs.FirstRefusal.{first_or_cases, first_or_none, first_or_some, none_first_of, every_any}
 use Rattle.basis.proofs.Result.{filled_spare, refused_spare, filled_below, refused_below}
 
 module _ (p : Parts) where

@@ -4,6 +4,7 @@ use Prim.Native.Nat.{ℕ, zero, suc, ◌+◌, ◌-◌, ◌*◌, ◌/◌, ◌%◌
 use mathlib.Core.Path.{◌≡◌, ◌∙◌, sym, ap₂}
 use native.Mathlib.Omega.{arith}
 use native.Mathlib.Nat.{mul-le-mul, mul-le-mul_left, mul-le-mul_right, le_of_mul-le-mul_right, lt_of_mul-lt-mul_right, div-mul-le_self, lt-div-mul-add, le-div_iff_mul-le, div-lt_iff_lt-mul, le_antisymm, mul-pos, le_of_lt, mul_comm, mul-sub, div-add-mod', min-eq_left, min-eq_right, max-eq_left, max-eq_right}
+use Rattle.std.proofs.lemmas.Grind.{div_ceil_times}
 use borrow.Author.Tests.{leb-true, leb-false}
 use lib.Dec.{leb}
 use Rattle.basis.specs.Fraction.{Fraction, ◌÷◌, whole, ◌≼◌, ◌≺◌, ◌≈◌, times, minus, smaller, larger, floor, ceil, nearest, LeastAtOrAbove, LessThanOneBelow, NearestTo}
@@ -210,6 +211,13 @@ minus_below f g = rw (sub_mul (f.num * g.den) (g.num * f.den) f.den) (omega arit
 -- Rounding up by quotient and remainder, as the code does it
 
 module _ (n d : ℕ) (pos : 0 < d) where
+  -- The library's quotient rounded up is the definition's.
+  pub ceil_by_remainder : n / d + min 1 (n % d) ≡ ceil (n ÷ d)
+  ceil_by_remainder =
+      let less : n / d + min 1 (n % d) < ceil (n ÷ d) + 1 =
+      lt_of_mul-lt-mul_right d {m = n / d + min 1 (n % d)} {n = ceil (n ÷ d) + 1} (omega (arith, ceil_above (n ÷ d) pos, div_ceil_times n d pos)) in
+      le_antisymm (omega (arith, less)) (ceil_least (n ÷ d) (n / d + min 1 (n % d)) pos (omega (arith, div_ceil_times n d pos)))
+
   pub ceil_exact : n % d ≡ 0 → ceil (n ÷ d) ≡ n / d
   ceil_exact even =
       le_antisymm (ceil_least (n ÷ d) (n / d) pos (omega (arith, div-add-mod' n d)))

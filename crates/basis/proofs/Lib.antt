@@ -4,5 +4,5 @@ pub mod Choice
 pub mod Fraction
 pub mod Load
 pub mod Range
-pub mod Refusal
+pub mod FirstRefusal
 pub mod Result

@@ -1,13 +1,19 @@
 -- Laws of ranges: what a passed test says.
 use Prim.Native.Nat.{ℕ, ◌≤◌}
-use mathlib.Core.Bool.{Bool, true, ◌&&◌, and-true, and_assoc}
+use mathlib.Core.Bool.{Bool, true, false, ◌&&◌, and-true, and_assoc}
 use mathlib.Core.List.{List, [], ◌∷◌, map}
 use mathlib.Core.Path.{◌≡◌, ◌∙◌, refl, sym}
 use native.Mathlib.Nat.{le_trans}
+use native.Mathlib.Omega.{arith}
 use borrow.Author.Tests.{leb-true, le-leb}
 use lib.Dec.{leb}
+use Rattle.std.proofs.lemmas.Bool.Decides.{nat_tests}
+use Rattle.std.specs.declared.ops.RangeInclusive.{RangeInclusive}
+use Rattle.std.specs.Range.{range_inclusive_start, range_inclusive_end, range_inclusive_exhausted, range_inclusive_contains}
+use Rattle.std.specs.Ordering.{nat_cmp, partial_le}
+use Rattle.std.specs.Prelude.{Some}
 use Rattle.basis.proofs.Choice.{and_left, and_right, chain}
-use Rattle.basis.specs.Range.{Range, within, all_within, AllWithin, AllBelow}
+use Rattle.basis.specs.Range.{Range, ◌from◌to◌, within, all_within, AllWithin, AllBelow}
 
 pub within_all : (rs : List Range) → all_within rs ≡ true → AllWithin rs
 unfolding all_within
@@ -28,6 +34,15 @@ pub chain_within : (a : Bool) (rs : List Range) → chain a (map within rs) ≡ 
 unfolding all_within
 chain_within a [] = sym (and-true a)
 chain_within a (r ∷ rs) = chain_within (a && within r) rs ∙ and_assoc a (within r) (all_within rs)
+
+-- At numbers, what is not greater is less or equal.
+le_tests : (a b : ℕ) → partial_le (λ x y. Some (nat_cmp x y)) a b ≡ leb a b
+le_tests a b = grind (arith, nat_tests)
+
+-- What `contains` of `low..=high` answers: whether a number is between the ends.
+pub contains_within : (range : RangeInclusive ℕ) (low high number : ℕ) → range_inclusive_start range ≡ low → range_inclusive_end range ≡ high →
+    range_inclusive_exhausted range ≡ false → range_inclusive_contains (λ x y. Some (nat_cmp x y)) range number ≡ within (number from low to high)
+contains_within range low high number start end fresh = rw (start, end, fresh, le_tests low number, le_tests number high)
 
 pub AllBelow-mono : (bound bound' : ℕ) (ns : List ℕ) → bound ≤ bound' → AllBelow bound ns → AllBelow bound' ns
 AllBelow-mono bound bound' [] wider all = tt

@@ -1,5 +1,40 @@
 -- "The first that applies is given": refusals are a list of number and test, in document 01's order.
-use Rattle.std.specs.Prelude.{ℕ, Bool, false, cond, List, [], ◌∷◌, ◌≡◌}
+use Rattle.std.specs.Prelude.{ℕ, Bool, false, cond, List, [], ◌∷◌, ◌≡◌, Result, Ok, Err}
+use Rattle.basis.specs.declared.Refusal.{Refusal}
+use Rattle.basis.specs.declared.Refusal.TheVariants.{NotALine, OutOfRange, WallTooThin, AreaTooSmall, UnfitForUse, WallTooHigh, FloorLoadTooGreat, BuildingTooHigh, SpanTooLong, BearingTooShallow, StrengthTooLow, WallTooSlender, LoadAboveResistance, CellarWallTooThin, CellarWallTooHigh, FillTooHigh, GroundLoadTooGreat, CellarLoadAboveResistance, DeadLoadBelowNeed, BufferTooShort}
+
+-- Document 01's table: the number of each refusal.
+abbrev pub number_of : Refusal → ℕ
+number_of NotALine = 1
+number_of OutOfRange = 2
+number_of WallTooThin = 3
+number_of AreaTooSmall = 4
+number_of UnfitForUse = 5
+number_of WallTooHigh = 6
+number_of FloorLoadTooGreat = 7
+number_of BuildingTooHigh = 8
+number_of SpanTooLong = 9
+number_of BearingTooShallow = 10
+number_of StrengthTooLow = 11
+number_of WallTooSlender = 12
+number_of LoadAboveResistance = 13
+number_of CellarWallTooThin = 14
+number_of CellarWallTooHigh = 15
+number_of FillTooHigh = 16
+number_of GroundLoadTooGreat = 17
+number_of CellarLoadAboveResistance = 18
+number_of DeadLoadBelowNeed = 19
+number_of BufferTooShort = 20
+
+-- What the code answers, with the number of the refusal in its place.
+abbrev pub numbered : {A : Type 0} → Result A Refusal → Result A ℕ
+numbered (Ok answer) = Ok answer
+numbered (Err refusal) = Err (number_of refusal)
+
+-- "refusal (0 accepted)"
+abbrev pub verdict_number : Result Unit Refusal → ℕ
+verdict_number (Ok nothing) = 0
+verdict_number (Err refusal) = number_of refusal
 
 -- The answer for the number of the first refusal whose test holds, or another where none does.
 unfoldable pub first_or : {A : Type 0} → (ℕ → A) → List (ℕ × Bool) → A → A

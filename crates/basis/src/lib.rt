@@ -1,15 +1,57 @@
 // What both kinds of wall share: the result, the first refusal that applies, and rounding.
 #![tactic(auto)]
 
-ghost use Rattle.std.specs.Prelude.{[], ◌∷◌, ◌≡◌};
+ghost use Rattle.std.specs.Prelude.{cond, ◌≡◌, Ok, Err};
 ghost use Rattle.basis.specs.Fraction.{◌÷◌, ceil};
 ghost use Rattle.basis.specs.Load.{rounded_load};
-ghost use Rattle.basis.specs.Refusal.{first_or};
+ghost use Rattle.basis.specs.Refusal.{number_of, verdict_number};
 ghost use Rattle.basis.specs.Result.{refused_with, filled_with};
+
+// Why a record, a line or a buffer is refused, with the numbers of document 01's table.
+#[derive(Clone, Copy, Debug, PartialEq, Eq)]
+pub enum Refusal {
+    NotALine = 1,
+    OutOfRange = 2,
+    WallTooThin = 3,
+    AreaTooSmall = 4,
+    UnfitForUse = 5,
+    WallTooHigh = 6,
+    FloorLoadTooGreat = 7,
+    BuildingTooHigh = 8,
+    SpanTooLong = 9,
+    BearingTooShallow = 10,
+    StrengthTooLow = 11,
+    WallTooSlender = 12,
+    LoadAboveResistance = 13,
+    CellarWallTooThin = 14,
+    CellarWallTooHigh = 15,
+    FillTooHigh = 16,
+    GroundLoadTooGreat = 17,
+    CellarLoadAboveResistance = 18,
+    DeadLoadBelowNeed = 19,
+    BufferTooShort = 20,
+}
+
+impl Refusal {
+    // This refusal where it applies. With `?` behind it, what follows is asked only where it does not: "the first that applies is given".
+    pub fn when(self, applies: bool) -> Result<(), Refusal>
+        ensures { result ≡ cond applies (Err self) (Ok tt) }
+    {
+        first_refusal(Err(self), applies, Ok(()))
+    }
+}
+
+impl From<Refusal> for u64 {
+    ghost from_gives = { λ refusal number. number ≡ number_of refusal };
+
+    fn from(refusal: Refusal) -> u64 {
+        refusal as u64
+    }
+}
 
 // The five numbers of a result, in the order in which they are printed.
 #[repr(C)]
-#[derive(Clone, Copy)]
+#[derive(Clone, Copy, Debug, PartialEq, Eq)]
 pub struct CheckResult {
     // Document 01's number of the refusal; 0 is accepted.
     pub refusal: u64,
@@ -37,6 +79,22 @@ impl CheckResult {
         }
     }
 
+    // All five numbers, of a record that is accepted or refused by a measure.
+    pub fn reported(
+        verdict: Result<(), Refusal>,
+        second: u64,
+        load: u32,
+        resistance: u32,
+    ) -> CheckResult
+        ensures { result ≡ filled_with (verdict_number verdict) second load resistance }
+    {
+        let refusal = match verdict {
+            Ok(()) => 0,
+            Err(refusal) => u64::from(refusal),
+        };
+        CheckResult::filled(refusal, second, load, resistance)
+    }
+
     // All five numbers. Load and resistance are u32, so that the spare always fits.
     pub fn filled(refusal: u64, second: u64, load: u32, resistance: u32) -> CheckResult
         ensures { result ≡ filled_with refusal second load resistance }
@@ -51,12 +109,20 @@ impl CheckResult {
     }
 }
 
-// The number of a refusal where it applies, else that of the later ones.
-pub fn first_refusal(number: u64, applies: bool, later: u64) -> u64
-    ensures { result ≡ first_or (λ n. n) ((number, applies) ∷ []) later }
+impl From<Refusal> for CheckResult {
+    ghost from_gives = { λ refusal outcome. outcome ≡ refused_with (number_of refusal) };
+
+    fn from(refusal: Refusal) -> CheckResult {
+        CheckResult::refused(u64::from(refusal))
+    }
+}
+
+// A refusal where it applies, else the later ones: numbers, or verdicts.
+pub fn first_refusal<T: Drop>(refusal: T, applies: bool, later: T) -> T
+    ensures { result ≡ cond applies refusal later }
 {
     if applies {
-        return number;
+        return refusal;
     }
     later
 }
@@ -66,12 +132,10 @@ pub fn ceil_div(dividend: u64, divisor: u64) -> u64
     ensures { result ≡ ceil (dividend ÷ divisor) }
 {
     if divisor == 0 {
-        return 0;
+        0
+    } else {
+        dividend.div_ceil(divisor)
     }
-    if dividend % divisor == 0 {
-        return dividend / divisor;
-    }
-    dividend / divisor + 1
 }
 
 // Loads with their factors are in hundredths of N/m.

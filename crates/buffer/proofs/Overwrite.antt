@@ -1,15 +1,17 @@
 -- Laws of `overwrite`. A buffer into which n bytes fit from byte `at` on is three parts: what lies before, those n bytes, and what lies
 -- behind (`in_parts`). Of three such parts `overwrite` replaces the middle one by the text (`overwrite_parts`). The other laws follow.
-use Prim.Native.Nat.{ℕ, ◌+◌, ◌≤◌, ◌<◌}
+use Prim.Native.Nat.{ℕ, ◌+◌, ◌-◌, ◌≤◌, ◌<◌}
 use native.Mathlib.Decide.{dec_le}
 use native.Mathlib.Nat.{add-zero, zero-add}
-use native.Mathlib.Numerals.{add-one}
 use native.Mathlib.Omega.{arith}
-use mathlib.Core.List.{List, [], ◌∷◌, ◌++◌, append_assoc, append-nil}
+use mathlib.Core.List.{List, [], ◌++◌, append_assoc, append-nil}
 use mathlib.Core.Path.{◌≡◌, refl, sym, ◌∙◌, subst, subst₂}
-use lib.ListN.{length, take, drop, set, get_or, length-append, length-take, length-drop, take-append-drop}
-use lib.Seq.{length-take-le, take-add, take-suc, take-append_seam, drop-append_seam, take_at, drop_at, append_snoc, set_split, set_out}
+use lib.ListN.{length, take, drop, length-append, length-take, length-drop, take-append-drop}
+use lib.Seq.{length-take-le, take-add, take-append_seam, drop-append_seam, take_at, drop_at}
 use borrow.Author.Tests.{le-leb, lt-leb}
+use borrow.Rule.Slice.PartMut.{put_mid}
+use Rattle.std.proofs.lemmas.Slice.{put_mid-paste}
+use Rattle.std.proofs.lemmas.List.Edits.{paste_all}
 use Rattle.buffer.specs.Overwrite.{overwrite}
 
 -- ── three parts ──
@@ -82,41 +84,16 @@ in_two_parts P n k all =
     subst (λ (x : List ℕ). P (a ++ x ++ b) (length a)) (take-append-drop n m)
     (all a (take n m) (drop n m) b (length-take-le n m (omega arith)) (length-drop n m ∙ omega arith)))
 
-module _ (l : List ℕ) (at : ℕ) (t u : List ℕ) (h : at + (length t + length u) ≤ length l) where
-  pub overwrite_joins : overwrite (overwrite l at t) (at + length t) u ≡ overwrite l at (t ++ u)
-  overwrite_joins =
-      in_two_parts (λ k p. overwrite (overwrite k p t) (p + length t) u ≡ overwrite k p (t ++ u)) (length t) (length u)
-      (λ a m n b e f. rw (overwrite_front a m n b t, overwrite_back a t n b u, overwrite_parts a (m ++ n) b (t ++ u) (simp (length-append, e, f)))) l at h
+pub overwrite_joins :
+    (l : List ℕ) (at : ℕ) (t u : List ℕ) → at + (length t + length u) ≤ length l → overwrite (overwrite l at t) (at + length t) u ≡ overwrite l at (t ++ u)
+overwrite_joins l at t u =
+    in_two_parts (λ k p. overwrite (overwrite k p t) (p + length t) u ≡ overwrite k p (t ++ u)) (length t) (length u)
+    (λ a m n b e f. rw (overwrite_front a m n b t, overwrite_back a t n b u, overwrite_parts a (m ++ n) b (t ++ u) (simp (length-append, e, f)))) l at
 
-  pub overwrite_joins_before : overwrite (overwrite l (at + length t) u) at t ≡ overwrite l at (t ++ u)
-  overwrite_joins_before =
-      in_two_parts (λ k p. overwrite (overwrite k (p + length t) u) p t ≡ overwrite k p (t ++ u)) (length t) (length u)
-      (λ a m n b e f. rw (← e, overwrite_back a m n b u, overwrite_front a m u b t, overwrite_parts a (m ++ n) b (t ++ u) (simp (length-append, e, f)))) l at h
-
--- ── none, one byte, one byte more ──
+-- ── none ──
 pub overwrite_none : (l : List ℕ) (at : ℕ) → overwrite l at [] ≡ l
 overwrite_none l at =
     overwrite_cases l at [] (λ k. k ≡ l) (λ h. rw (overwrite_fits l at [] h, add-zero, append-nil) (take-append-drop at l)) refl
-
-pub overwrite_byte : (l : List ℕ) (at byte : ℕ) → overwrite l at (byte ∷ []) ≡ set l at byte
-overwrite_byte l at byte =
-    elim (dec_le (at + 1) (length l)) [
-      | yes h ↦ rw (overwrite_fits l at (byte ∷ []) h, append_snoc, set_split l at byte (omega arith), add-one)
-      | no h ↦ overwrite_beyond l at (byte ∷ []) (omega arith) ∙ sym (set_out l at byte (omega arith))
-    ]
-
--- A byte put first, and then the text that ends before it.
-pub overwrite_byte_behind :
-    (l : List ℕ) (at : ℕ) (t : List ℕ) (i byte : ℕ) → at + length t ≡ i → i < length l → overwrite (set l i byte) at t ≡ overwrite l at (t ++ byte ∷ [])
-overwrite_byte_behind l at t i byte e h = rw (← e, ← overwrite_byte) (overwrite_joins_before l at t (byte ∷ []) (omega arith))
-
--- A turn of a loop that puts a text down front to back: with the text's first i bytes in place it puts the next one.
-pub overwrite_more :
-    (l : List ℕ) (at : ℕ) (t : List ℕ) (i : ℕ) {k : List ℕ} {byte : ℕ} → at + length t ≤ length l → i < length t → k ≡ overwrite l at (take i t) → byte ≡ get_or t i 0
-    → set k (at + i) byte ≡ overwrite l at (take (i + 1) t)
-overwrite_more l at t i fits more e f =
-    let put : length (take i t) ≡ i = length-take-le i t (omega arith) in
-    rw (e, f, add-one, take-suc t i 0, ← overwrite_joins l at (take i t) (get_or t i 0 ∷ []) (omega arith), put, overwrite_byte)
 
 -- ── a lent part ──
 overwrite_within : (a m b t : List ℕ) (at : ℕ) → at + length t ≤ length m → overwrite (a ++ (m ++ b)) (length a + at) t ≡ a ++ (overwrite m at t ++ b)
@@ -133,3 +110,10 @@ overwrite_part l from n at t within fits =
     (λ a m b e.
     simp (append_assoc a m b, take-append_seam, drop-append_seam, take_at m b n e, drop_at m b n e)
     (sym (overwrite_within a m b t at (omega arith)))) l from within
+
+-- The same where the part, given by its ends, comes back holding a text of its length.
+pub overwrite_lent :
+    (l : List ℕ) (at start end : ℕ) (t : List ℕ) {part : List ℕ}
+    → start ≡ at → end ≡ at + length t → end ≤ length l → part ≡ t → put_mid start (end - start) l part ≡ overwrite l at t
+overwrite_lent l at start end t s e within put =
+    put_mid-paste start _ l _ t (length t) put (omega arith) refl ∙ paste_all l start t (length t) refl ∙ rw (s, overwrite_fits l at t (omega arith), append_assoc)

@@ -2,19 +2,17 @@
 // What does not fit leaves the buffer alone.
 #![tactic(auto)]
 
-ghost use Rattle.std.specs.Prelude.{◌≡◌, ◌+◌, leb, length, replicate};
+ghost use Rattle.std.specs.Prelude.{◌≡◌, ◌+◌, ◌<◌, ◌≤◌, length, replicate, MatchOption};
 ghost use Rattle.buffer.specs.Overwrite.{overwrite};
+
+use std::ops::Range;
 
 // The bytes of `text`.
 pub fn copy(out: &mut [u8], at: usize, text: &[u8])
     ensures { out.new ≡ overwrite out.old at text.now }
 {
-    if within(out.len(), at, text.len()) {
-        let mut i = 0;
-        while i < text.len() {
-            out[at + i] = text[i];
-            i += 1;
-        }
+    if let Some(part) = part(out.len(), at, text.len()) {
+        out[part].copy_from_slice(text);
     }
 }
 
@@ -22,22 +20,15 @@ pub fn copy(out: &mut [u8], at: usize, text: &[u8])
 pub fn clear(out: &mut [u8], at: usize, count: usize)
     ensures { out.new ≡ overwrite out.old at (replicate count 0) }
 {
-    if within(out.len(), at, count) {
-        let mut done = 0;
-        while done < count {
-            out[at + done] = 0;
-            done += 1;
-        }
+    if let Some(part) = part(out.len(), at, count) {
+        out[part].fill(0);
     }
 }
 
-// Whether `count` bytes from byte `at` on lie within `length` bytes.
-fn within(length: usize, at: usize, count: usize) -> bool
-    ensures { result ≡ leb (at + count) length }
+// The part of `count` bytes from byte `at` on, where a buffer of `length` bytes has it.
+fn part(length: usize, at: usize, count: usize) -> Option<Range<usize>>
+    ensures { MatchOption result (length < at + count) (λ part. (part.start ≡ at) × (part.end ≡ at + count) × (part.end ≤ length)) }
 {
-    if at <= length {
-        count <= length - at
-    } else {
-        false
-    }
+    let end = at.checked_add(count)?;
+    (end <= length).then_some(at..end)
 }

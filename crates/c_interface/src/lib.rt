@@ -5,7 +5,7 @@ ghost use Rattle.std.specs.Prelude.{◌≡◌};
 ghost use Rattle.wallcheck.specs.Entry.{line_result, counted_result, cells_result, lent, edition};
 
 use basis::CheckResult;
-use wallcheck::CountedResult;
+use wallcheck::{Checked, CountedResult};
 use worksheet::cells::Cells;
 
 const EDITION: u64 = 105;
@@ -22,7 +22,7 @@ pub extern "C" fn wallcheck_edition() -> u64
 pub extern "C" fn wallcheck_line(line: &[u8]) -> CheckResult
     ensures { result ≡ line_result line.now }
 {
-    wallcheck::check_line(line)
+    line.check()
 }
 
 #[unsafe(no_mangle)]
@@ -36,19 +36,19 @@ pub extern "C" fn wallcheck_line_taken(line: &[u8]) -> CountedResult
 pub extern "C" fn wallcheck_line_into(line: &[u8], out: &mut [u8]) -> CheckResult
     ensures { record { result = result; buffer = out.new } ≡ lent out.old (line_result line.now) }
 {
-    wallcheck::check_line_into(line, out)
+    line.check_into(out)
 }
 
 #[unsafe(no_mangle)]
 pub extern "C" fn wallcheck_row(cells: Cells) -> CheckResult
     ensures { result ≡ cells_result cells }
 {
-    cells.wall().check()
+    cells.check()
 }
 
 #[unsafe(no_mangle)]
 pub extern "C" fn wallcheck_row_into(cells: Cells, out: &mut [u8]) -> CheckResult
     ensures { record { result = result; buffer = out.new } ≡ lent out.old (cells_result cells) }
 {
-    wallcheck::lend(cells.wall().check(), out)
+    cells.check_into(out)
 }

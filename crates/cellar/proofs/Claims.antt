@@ -37,7 +37,7 @@ pub result_below : (w : CellarWall) → Below 1000000000 (check w)
 result_below w =
     AnyCheck.result_is_bounded (parts w) 1000000000 (omega arith) refl
     (λ passed none. (
-      omega (arith, required_load_most w (record { in_range = passed; within_limits = none })),
+      omega (arith, required_load_most w passed none),
       omega (arith, load_most w passed),
       omega (arith, resistance_most w passed),
     ))

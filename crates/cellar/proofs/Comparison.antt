@@ -11,9 +11,10 @@ use Rattle.cellar.specs.Range.{ranges, in_range}
 use Rattle.cellar.specs.RequiredLoad.{exact_required_load, required_load}
 use Rattle.cellar.specs.Resistance.{exact_resistance, resistance}
 use Rattle.cellar.specs.Load.{load}
-use Rattle.cellar.specs.Limits.{limits, too_thin, too_high, fill_too_high, ground_load_too_great, too_weak}
+use Rattle.cellar.specs.Limits.{limits}
 use Rattle.cellar.specs.Comparison.{with_loads_of, SameButLoads, Between}
 use Rattle.cellar.proofs.Range.{in_ranges}
+use Rattle.cellar.proofs.Limits.{each_limit}
 use Rattle.cellar.proofs.Load.{load_grows}
 
 -- All else being equal, the other record is the one with the other's loads: what is proved of that holds of the other.
@@ -33,7 +34,7 @@ module _ (one other : CellarWall) (same : SameButLoads one other) where
   required_load_same = sym (ap required_load same) ∙ required_load_unchanged
 
   limits_unchanged : NoneApplies (limits one) → NoneApplies (limits (with_loads_of other one))
-  unfolding too_thin too_high fill_too_high ground_load_too_great too_weak
+  unfolding each_limit
   limits_unchanged none = none
 
   pub limits_same : NoneApplies (limits one) → NoneApplies (limits other)

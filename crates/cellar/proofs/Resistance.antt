@@ -1,11 +1,12 @@
--- Laws of the resistance: its products fit, and its bound.
-use Prim.Native.Nat.{ℕ, ◌*◌, ◌≤◌, ◌<◌}
+-- Laws of the resistance: its products fit, the code's quotients are the definition's, and its bound.
+use Prim.Native.Nat.{ℕ, ◌*◌, ◌/◌, ◌≤◌, ◌<◌}
 use mathlib.Core.Bool.{true}
 use mathlib.Core.Path.{◌≡◌}
 use native.Mathlib.Omega.{arith}
-use native.Mathlib.Nat.{mul-le-mul}
+use native.Mathlib.Nat.{mul-le-mul, mul-one}
+use borrow.Author.Tests.{eq-eqb, ne_eqb}
 use lib.Dec.{eqb}
-use Rattle.basis.specs.Fraction.{Fraction, ◌÷◌, whole, ◌≼◌, times}
+use Rattle.basis.specs.Fraction.{Fraction, ◌÷◌, whole, ◌≼◌, times, floor}
 use Rattle.basis.proofs.Choice.{cond_cases}
 use Rattle.basis.proofs.Fraction.{times_den, times_mono, floor_most}
 use Rattle.cellar.specs.declared.CellarWall.{CellarWall}
@@ -17,6 +18,22 @@ pub strength_product_most : (w : CellarWall) → in_range w ≡ true → 17 * w.
 strength_product_most w passed =
     let all = in_ranges w passed in
     mul-le-mul {n₂ = 85000} {m₂ = 1000} (omega arith) (omega arith)
+
+-- The code's quotients
+
+module _ (w : CellarWall) where
+  pub resistance_bonded : w.bonded ≡ 1 → 17 * w.strength * w.thickness * 4 / 45 ≡ resistance w
+  unfolding resistance exact_resistance reduction floor times
+  resistance_bonded is = rw (eq-eqb _ _ is)
+
+  pub resistance_whole : (w.bonded ≡ 1 → ⊥) → 17 * w.strength * w.thickness / 9 ≡ resistance w
+  unfolding resistance exact_resistance reduction floor times
+  resistance_whole isnt = rw (ne_eqb _ _ isnt, mul-one (17 * w.strength * w.thickness))
+
+-- What the code's resistance rests on: its products and its quotients.
+pub ruleset resistance_steps = (in_ranges, strength_product_most, resistance_bonded, resistance_whole)
+
+-- Bound: at most 85000000/9
 
 pub reduction_den : (bonded : ℕ) → 0 < (reduction bonded).den
 unfolding reduction

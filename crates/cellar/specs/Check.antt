@@ -1,6 +1,5 @@
 -- Document 01, "Results and refusals", for a `C` record: the parts of its check, and the five numbers of every record.
-use Rattle.std.specs.Prelude.{ℕ, Bool, true, List, [], ◌∷◌, ◌≡◌, ltb}
-use Rattle.basis.specs.Refusal.{NoneApplies}
+use Rattle.std.specs.Prelude.{ℕ, Bool, List, [], ◌∷◌, ltb}
 use Rattle.basis.specs.Check.{Parts, result_of}
 use Rattle.basis.specs.declared.CheckResult.{CheckResult}
 use Rattle.cellar.specs.declared.CellarWall.{CellarWall}
@@ -29,8 +28,3 @@ parts w =
 -- The five numbers of every record: refusal, need, N, resistance, spare.
 abbrev pub check : CellarWall → CheckResult
 check w = result_of (parts w)
-
--- What the inner functions are handed: a record in range and within every limit.
-pub record WithinLimits (w : CellarWall) : Type 0 where
-  pub in_range : in_range w ≡ true
-  pub within_limits : NoneApplies (limits w)

@@ -1,16 +1,20 @@
 // The cellar wall of document 01: its record, its ranges, limits and factors, and its check.
 #![tactic(auto)]
 
-ghost use Rattle.std.specs.Prelude.{true, ◌≡◌};
-ghost use Rattle.basis.specs.Refusal.{first_of};
+ghost use Rattle.std.specs.Prelude.{◌∷◌, ◌≡◌, not, Ok, Err};
+ghost use Rattle.basis.specs.Refusal.{first_or, numbered};
+ghost use Rattle.basis.specs.Check.{reported};
+ghost use Rattle.cellar.specs.Record.{cellar_of};
 ghost use Rattle.cellar.specs.Range.{in_range};
-ghost use Rattle.cellar.specs.RequiredLoad.{required_load};
-ghost use Rattle.cellar.specs.Resistance.{resistance};
-ghost use Rattle.cellar.specs.Load.{load};
 ghost use Rattle.cellar.specs.Limits.{limits};
-ghost use Rattle.cellar.specs.Check.{check, WithinLimits};
+ghost use Rattle.cellar.specs.Check.{parts, check};
 
-use basis::CheckResult;
+mod in_range;
+mod within_limits;
+
+use basis::{CheckResult, Refusal};
+use in_range::WallInRange;
+use within_limits::WallWithinLimits;
 
 // The numbers of a `C` record, in document 01's order. Lengths are in mm.
 #[derive(Clone, Copy)]
@@ -42,6 +46,26 @@ impl CellarWall {
     pub const NUMBERS: usize = 10;
 }
 
+// A record's numbers, as a line has them, in document 01's order.
+impl From<[u64; CellarWall::NUMBERS]> for CellarWall {
+    ghost from_gives = { λ numbers wall. wall ≡ cellar_of numbers };
+
+    fn from(numbers: [u64; CellarWall::NUMBERS]) -> CellarWall {
+        CellarWall {
+            thickness: numbers[0],
+            height: numbers[1],
+            fill: numbers[2],
+            spacing: numbers[3],
+            weight: numbers[4],
+            strength: numbers[5],
+            bonded: numbers[6],
+            dead: numbers[7],
+            imposed: numbers[8],
+            groundload: numbers[9],
+        }
+    }
+}
+
 // Ranges: document 01, "The two lines".
 impl CellarWall {
     // The greatest number of each range.
@@ -66,23 +90,24 @@ impl CellarWall {
     const RANGE_GREATEST_GROUND: u64 = 100000;
 
     // Whether every number of the record is in its range: both ends of each, in the order of the definition's list.
+    #[tactic(auto, using(basis::proofs::Range::contains_within, crate::proofs::Range::in_range_chain))]
     pub fn in_range(self) -> bool
         ensures { result ≡ in_range self }
     {
-        ((1 <= self.thickness) & (self.thickness <= CellarWall::RANGE_GREATEST_THICKNESS))
-            & ((1 <= self.height) & (self.height <= CellarWall::RANGE_GREATEST_HEIGHT))
-            & ((0 <= self.fill) & (self.fill <= CellarWall::RANGE_GREATEST_FILL))
-            & ((1 <= self.spacing) & (self.spacing <= CellarWall::RANGE_GREATEST_SPACING))
-            & ((1 <= self.weight) & (self.weight <= CellarWall::RANGE_GREATEST_WEIGHT))
-            & ((1 <= self.strength) & (self.strength <= CellarWall::RANGE_GREATEST_STRENGTH))
-            & ((0 <= self.bonded) & (self.bonded <= CellarWall::RANGE_GREATEST_BONDED))
-            & ((1 <= self.dead) & (self.dead <= CellarWall::RANGE_GREATEST_DEAD))
-            & ((0 <= self.imposed) & (self.imposed <= CellarWall::RANGE_GREATEST_IMPOSED))
-            & ((0 <= self.groundload) & (self.groundload <= CellarWall::RANGE_GREATEST_GROUND))
+        (1..=CellarWall::RANGE_GREATEST_THICKNESS).contains(&self.thickness)
+            & (1..=CellarWall::RANGE_GREATEST_HEIGHT).contains(&self.height)
+            & (0..=CellarWall::RANGE_GREATEST_FILL).contains(&self.fill)
+            & (1..=CellarWall::RANGE_GREATEST_SPACING).contains(&self.spacing)
+            & (1..=CellarWall::RANGE_GREATEST_WEIGHT).contains(&self.weight)
+            & (1..=CellarWall::RANGE_GREATEST_STRENGTH).contains(&self.strength)
+            & (0..=CellarWall::RANGE_GREATEST_BONDED).contains(&self.bonded)
+            & (1..=CellarWall::RANGE_GREATEST_DEAD).contains(&self.dead)
+            & (0..=CellarWall::RANGE_GREATEST_IMPOSED).contains(&self.imposed)
+            & (0..=CellarWall::RANGE_GREATEST_GROUND).contains(&self.groundload)
     }
 }
 
-// Required load and resistance.
+// Factors of the required load, the resistance and the load.
 impl CellarWall {
     // B, by the spacing of the cross walls: WIDE_FACTOR from twice the height on, CLOSE_FACTOR up to the height,
     // between them BETWEEN_FACTOR - BETWEEN_SLOPE c/h.
@@ -105,62 +130,10 @@ impl CellarWall {
     const BONDED_FIFTHS: u64 = 4;
 
     const WHOLE_FIFTHS: u64 = 5;
-
-    // The need: the dead load that the wall requires against the fill, in N/m.
-    fn required_load(self) -> u64
-        requires { WithinLimits self }
-        ensures { result ≡ required_load self }
-    {
-        let height = self.height;
-        let fill = self.fill;
-        let spacing = self.spacing;
-        let weight = self.weight;
-        let thickness = self.thickness;
-        let pressure = weight * height * (fill * fill);
-        let divisor = CellarWall::REQUIRED_LOAD_DIVISOR * thickness;
-        if CellarWall::WIDE_HEIGHTS * height <= spacing {
-            return basis::ceil_div(pressure, CellarWall::WIDE_FACTOR * divisor);
-        }
-        if spacing <= height {
-            return basis::ceil_div(pressure, CellarWall::CLOSE_FACTOR * divisor);
-        }
-        let factor = CellarWall::BETWEEN_FACTOR * height - CellarWall::BETWEEN_SLOPE * spacing;
-        basis::ceil_div(pressure * height, factor * divisor)
-    }
-
-    // The resistance in N/m.
-    fn resistance(self) -> u64
-        requires { WithinLimits self }
-        ensures { result ≡ resistance self }
-    {
-        let strength = self.strength;
-        let thickness = self.thickness;
-        let bonded = self.bonded;
-        let product = CellarWall::STRENGTH_FACTOR * strength * thickness;
-        if bonded == 1 {
-            return product * CellarWall::BONDED_FIFTHS
-                / (CellarWall::STRENGTH_DIVISOR * CellarWall::WHOLE_FIFTHS);
-        }
-        product / CellarWall::STRENGTH_DIVISOR
-    }
-}
-
-// Load.
-impl CellarWall {
     // 1.35G + 1.5Q, in hundredths.
     const DEAD_FACTOR: u64 = 135;
 
     const IMPOSED_FACTOR: u64 = 150;
-
-    // N, the design load in N/m.
-    fn load(self) -> u64
-        requires { in_range self ≡ true }
-        ensures { result ≡ load self }
-    {
-        basis::rounded_load(
-            CellarWall::DEAD_FACTOR * self.dead + CellarWall::IMPOSED_FACTOR * self.imposed,
-        )
-    }
 }
 
 // Limits: document 01's refusals 14 to 17 and 11, with 16 as document 02, #105, has it.
@@ -178,51 +151,40 @@ impl CellarWall {
     // 11
     const LIMIT_LEAST_STRENGTH: u64 = 180;
 
-    // The number of the first of refusals 14 to 17 and 11 that applies, or 0. The last is asked first, so that each takes the place of those behind it.
-    fn limit(self) -> u64
-        ensures { result ≡ first_of (limits self) }
+    // The first of refusals 14 to 17 and 11 that applies.
+    #[tactic(auto, unfolding(basis::specs::Refusal::first_or, crate::proofs::Limits::each_limit))]
+    fn limits(self) -> Result<(), Refusal>
+        ensures { numbered result ≡ first_or Err (limits self) (Ok tt) }
     {
         // in 128 bits the products fit, whatever the record
         let fill_too_high = CellarWall::LIMIT_FILL_TWENTIETHS as u128 * (self.height as u128)
             < CellarWall::WHOLE_TWENTIETHS as u128 * self.fill as u128;
-        let limit = basis::first_refusal(11, self.strength < CellarWall::LIMIT_LEAST_STRENGTH, 0);
-        let limit = basis::first_refusal(17, CellarWall::LIMIT_GROUND < self.groundload, limit);
-        let limit = basis::first_refusal(16, fill_too_high, limit);
-        let limit = basis::first_refusal(15, CellarWall::LIMIT_HEIGHT < self.height, limit);
-        basis::first_refusal(
-            14,
-            self.thickness < CellarWall::LIMIT_LEAST_THICKNESS,
-            limit,
-        )
+        Refusal::CellarWallTooThin.when(self.thickness < CellarWall::LIMIT_LEAST_THICKNESS)?;
+        Refusal::CellarWallTooHigh.when(CellarWall::LIMIT_HEIGHT < self.height)?;
+        Refusal::FillTooHigh.when(fill_too_high)?;
+        Refusal::GroundLoadTooGreat.when(CellarWall::LIMIT_GROUND < self.groundload)?;
+        Refusal::StrengthTooLow.when(self.strength < CellarWall::LIMIT_LEAST_STRENGTH)
     }
 }
 
 // The check.
 impl CellarWall {
-    // The result of a record within every limit: accepted, or refusal 18 or 19.
-    fn reported(self) -> CheckResult
-        requires { WithinLimits self }
-        ensures { result ≡ check self }
+    // What is reported of a record in range and within every limit, or the first refusal that leaves four zeros.
+    #[tactic(auto, unfolding(basis::specs::Refusal::first_or))]
+    fn reported(self) -> Result<CheckResult, Refusal>
+        ensures { numbered result ≡ first_or Err ((2, not (in_range self)) ∷ limits self) (Ok (reported (parts self))) }
     {
-        let required = self.required_load();
-        let load = self.load();
-        let resistance = self.resistance();
-        let refusal = basis::first_refusal(19, self.dead < required, 0);
-        let refusal = basis::first_refusal(18, resistance < load, refusal);
-        CheckResult::filled(refusal, required, load as u32, resistance as u32)
+        Refusal::OutOfRange.when(!self.in_range())?;
+        self.limits()?;
+        let wall = WallInRange { wall: self };
+        Ok(WallWithinLimits { wall }.reported())
     }
 
     // The result of any record.
+    #[tactic(auto, unfolding(basis::specs::Refusal::first_or, basis::specs::Check::result_of))]
     pub fn check(self) -> CheckResult
         ensures { result ≡ check self }
     {
-        if self.in_range() {
-            let limit = self.limit();
-            if limit == 0 {
-                return self.reported();
-            }
-            return CheckResult::refused(limit);
-        }
-        CheckResult::refused(2)
+        self.reported().unwrap_or_else(CheckResult::from)
     }
 }

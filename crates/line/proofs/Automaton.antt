@@ -1,26 +1,24 @@
 -- Laws of the automaton: s and t are states, b a byte, c a letter, ns the numbers before, d and v how many digits there are and their value.
-use Prim.Native.Nat.{ℕ, zero, suc, ◌+◌, ◌*◌, ◌/◌, ◌%◌, ◌^◌, ◌≤◌, ◌<◌}
-use mathlib.Core.Bool.{Bool, true, false, false≢true, cond, ◌&&◌}
+use Prim.Native.Nat.{ℕ, zero, suc, ◌+◌, ◌-◌, ◌*◌, ◌/◌, ◌%◌, ◌^◌, ◌≤◌, ◌<◌}
+use mathlib.Core.Bool.{Bool, true, false, false≢true, not, cond, ◌&&◌}
 use mathlib.Core.Path.{◌≡◌, refl, ap, subst, ◌∙◌}
 use mathlib.Core.List.{List, [], ◌∷◌, ◌++◌}
 use native.Mathlib.Decide.{dec_lt}
 use native.Mathlib.Nat.{pow-succ'}
-use native.Mathlib.Numerals.{add-one}
 use native.Mathlib.Omega.{arith}
-use lib.Dec.{leb, eqb}
-use lib.ListN.{length, get_or, drop, drop_of_length-le}
+use lib.Dec.{leb, ltb, eqb}
+use lib.ListN.{length, get_or, drop}
 use lib.Seq.{drop-cons}
+use native.Mathlib.Numerals.{add-one}
 use borrow.Author.Tests.{lt-ltb, le-ltb, le-leb, leb-true, eqb-true, ne_eqb}
-use Rattle.line.specs.declared.Reading.{Reading}
-use Rattle.line.specs.declared.Reading.TheVariants.{Malformed}
-use Rattle.line.specs.declared.CountedReading.{CountedReading}
 use Rattle.text.specs.Decimal.{decimal}
 use Rattle.line.specs.Grammar.{count_of}
 use Rattle.line.specs.Automaton.{State, start, lettered, inside, wrong, is_wrong, digit_of, next, run}
-use Rattle.line.specs.Reading.{answer, read_line, taken_from, taken, counted_reading}
+use Rattle.line.specs.Reading.{taken_from}
 use Rattle.text.proofs.Decimal.{decimal_digit}
 use Rattle.line.proofs.Decimal.{decimal_snoc}
-use Rattle.basis.proofs.Choice.{and_left, cond_cases}
+use Rattle.std.specs.Char.{is_ascii_digit}
+use Rattle.basis.proofs.Choice.{and_left, and_right, cond_cases}
 
 pub run_append : (l m : List ℕ) (s : State) → run (l ++ m) s ≡ run m (run l s)
 unfolding run
@@ -40,10 +38,6 @@ run_wrong [] = refl
 run_wrong (b ∷ l) = run_wrong l
 
 -- One byte more.
-run_drop : (l : List ℕ) (at : ℕ) (s : State) → at < length l → run (drop at l) s ≡ run (drop (at + 1) l) (next s (get_or l at 0))
-unfolding run
-run_drop l at s h = rw (add-one, drop-cons l at 0)
-
 taken_drop : (l : List ℕ) (at : ℕ) (s : State) → at < length l → is_wrong s ≡ false
     → taken_from (drop at l) s ≡ 1 + taken_from (drop (at + 1) l) (next s (get_or l at 0))
 unfolding taken_from
@@ -54,44 +48,6 @@ pub taken_wrong : (l : List ℕ) (s : State) → is_wrong s ≡ true → taken_f
 unfolding taken_from
 taken_wrong [] s e = refl
 taken_wrong (b ∷ l) s e = rw e
-
--- A reading with its count.
-abbrev pub counted : Reading → ℕ → CountedReading
-counted reading n = record { reading = reading; taken = n }
-
-same_counted : {r r' : Reading} {n n' : ℕ} → r ≡ r' → n ≡ n' → counted r n ≡ counted r' n'
-same_counted e f = rw (e, f)
-
--- What the line l is read as follows from its bytes from `at` on, in the state s, and so does how many more are taken than those before.
-pub record Continues (l : List ℕ) (at : ℕ) (s : State) : Type 0 where
-  pub reads : counted_reading l ≡ counted (answer (run (drop at l) s)) (at + taken_from (drop at l) s)
-
-pub continues_start : (l : List ℕ) → Continues l 0 start
-unfolding counted_reading read_line taken
-continues_start l = record { reads = same_counted refl (omega arith) }
-
-module _ {l : List ℕ} {at : ℕ} {s : State} (c : Continues l at s) (fine : is_wrong s ≡ false) (left : at < length l) where
-  pub continues_next : {t : State} → next s (get_or l at 0) ≡ t → Continues l (at + 1) t
-  continues_next e =
-      record {
-        reads =
-            c.reads
-            ∙ same_counted
-            (ap answer (run_drop l at s left ∙ ap (run (drop (at + 1) l)) e))
-            (omega (arith, taken_drop l at s left fine, ap (taken_from (drop (at + 1) l)) e));
-      }
-
-  pub continues_wrong : next s (get_or l at 0) ≡ wrong → counted_reading l ≡ counted Malformed (at + 1)
-  unfolding answer
-  continues_wrong e =
-      (continues_next e).reads
-      ∙ same_counted (ap answer (run_wrong (drop (at + 1) l))) (omega (arith, taken_wrong (drop (at + 1) l) wrong refl))
-
--- At the end of the line the state decides, and all bytes are taken.
-pub counted_end : (l : List ℕ) (at : ℕ) (s : State) → length l ≤ at
-    → counted (answer (run (drop at l) s)) (at + taken_from (drop at l) s) ≡ counted (answer s) at
-unfolding run taken_from
-counted_end l at s h = rw (drop_of_length-le l h) (same_counted refl (omega arith))
 
 -- The byte of a digit has the digit's value.
 pub digit_byte : (x : ℕ) → x < 10 → digit_of (48 + x) ≡ x
@@ -105,6 +61,23 @@ byte_digit b =
     cond_cases (λ (x : ℕ). x < 10 → b ≡ 48 + x) (leb 48 b && leb b 57)
     (λ t h. omega (arith, leb-true 48 b (and_left (leb 48 b) (leb b 57) t)))
     (λ t h. omega arith)
+
+-- What a byte's class says of its digit.
+pub digit_of_digit : (b : ℕ) → is_ascii_digit b ≡ true → (digit_of b ≡ b - 48) × (b - 48 ≤ 9)
+unfolding digit_of
+digit_of_digit b e = (rw e, omega (arith, leb-true b 57 (and_right (leb 48 b) (leb b 57) e)))
+
+pub digit_of_other : (b : ℕ) → is_ascii_digit b ≡ false → digit_of b ≡ 10
+unfolding digit_of
+digit_of_other b e = rw e
+
+-- So the definition's test of a byte is its class.
+pub no_digit : (b : ℕ) → ltb 9 (digit_of b) ≡ not (is_ascii_digit b)
+no_digit b = cases (is_ascii_digit b) refl
+  where
+    cases : (x : Bool) → is_ascii_digit b ≡ x → ltb 9 (digit_of b) ≡ not x
+    cases true e = le-ltb 9 (digit_of b) (omega (arith, digit_of_digit b e))
+    cases false e = rw (digit_of_other b e)
 
 -- The letter of a line.
 pub next_letter : (c : ℕ) → 0 < count_of c → next start c ≡ lettered c

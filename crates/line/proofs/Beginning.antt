@@ -1,6 +1,8 @@
 -- The claims on the bytes taken. Bytes begin a line of the form exactly if they do not lead to `wrong`: those that do not are completed by zeros, for
 -- the number that is asked for next and for all behind it; those that do would make that line malformed.
 -- c is the letter, ns are the numbers before, d and v how many digits there are and their value.
+use Rattle.std.proofs.lemmas.Option.{none-some}
+use Rattle.std.proofs.Common.{None}
 use Prim.Native.Nat.{ℕ, zero, suc, ◌+◌, ◌-◌, ◌^◌, ◌<◌}
 use mathlib.Core.Bool.{Bool, true, false, false≢true}
 use mathlib.Core.List.{List, [], ◌∷◌, ◌++◌, append_assoc}
@@ -12,7 +14,6 @@ use native.Mathlib.Omega.{arith}
 use lib.ListN.{length, length-append, length-replicate, take, drop, take-append-drop, replicate}
 use borrow.Author.Tests.{ne_eqb}
 use Rattle.text.specs.Decimal.{decimal}
-use Rattle.line.specs.declared.Reading.TheVariants.{Malformed}
 use Rattle.line.specs.Grammar.{fields, count_of, line_of}
 use Rattle.line.specs.Beginning.{Begins, Wrong}
 use Rattle.line.specs.Automaton.{State, start, lettered, inside, wrong, is_wrong, next, run}
@@ -20,7 +21,7 @@ use Rattle.line.specs.Reading.{wall_of, answer, read_line, taken_from, taken}
 use Rattle.line.specs.Claims.{TakenExactly, FirstWrongTaken, NoneWrongTaken, LineTaken}
 use Rattle.line.proofs.Grammar.{fields_append, nine_digits_append, nine_digits_zeros, numbers_of_wall_of, letter_of_wall_of}
 use Rattle.line.proofs.Automaton.{is_wrong_lem, run_append, run_wrong, taken_wrong}
-use Rattle.line.proofs.Soundness.{Numbers, digits_nine, Spells, run_spells, not_read}
+use Rattle.line.proofs.Soundness.{Numbers, digits_nine, Spells, run_spells}
 use Rattle.line.proofs.Claims.{reading_complete}
 
 -- ---- What begins a line does not lead to `wrong`
@@ -29,8 +30,8 @@ begins_fine : (l : List ℕ) → Begins l → is_wrong (run l start) ≡ true �
 unfolding read_line answer
 begins_fine l b e =
     let ends : run (l ++ b.rest) start ≡ wrong = run_append l b.rest start ∙ ap (run b.rest) (is_wrong_lem _ e) ∙ run_wrong b.rest in
-    let malformed : read_line (line_of b.wall) ≡ Malformed = ap read_line b.line ∙ ap answer ends in
-    not_read b.wall (sym malformed ∙ reading_complete b.wall b.nine)
+    let malformed : read_line (line_of b.wall) ≡ None = ap read_line b.line ∙ ap answer ends in
+    none-some b.wall (sym malformed ∙ reading_complete b.wall b.nine)
 
 -- ---- What does not lead to `wrong` begins a line
 

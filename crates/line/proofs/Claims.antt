@@ -1,10 +1,10 @@
 -- The claims on reading.
+use Rattle.std.proofs.lemmas.Option.{none-some}
+use Rattle.std.proofs.Common.{Option, Some, None}
 use mathlib.Core.Path.{◌≡◌, refl, sym, ap, ◌∙◌}
 use mathlib.Core.List.{[]}
 use Rattle.walls.specs.declared.Wall.{Wall}
 use Rattle.walls.specs.declared.Wall.TheVariants.{Storey, Cellar}
-use Rattle.line.specs.declared.Reading.{Reading}
-use Rattle.line.specs.declared.Reading.TheVariants.{Read, Malformed}
 use Rattle.walls.specs.Check.{numbers_of}
 use Rattle.line.specs.Grammar.{NineDigits, count_of, line_of}
 use Rattle.line.specs.Automaton.{start, digit_of, next, run}
@@ -13,7 +13,7 @@ use Rattle.line.specs.Claims.{CountOfNumbers, ReadingSound, ReadingComplete, Mal
 use Rattle.text.specs.Quoted.{bytes}
 use Rattle.line.specs.Worked.{worked, WorkedLines}
 use Rattle.line.proofs.Completeness.{answer_line}
-use Rattle.line.proofs.Soundness.{run_spells, not_read, answer_spells}
+use Rattle.line.proofs.Soundness.{run_spells, answer_spells}
 
 pub count_of_numbers : CountOfNumbers
 unfolding count_of
@@ -31,13 +31,13 @@ reading_complete (Cellar w) nine = answer_line 67 _ _ nine refl
 
 pub malformed_exactly : MalformedExactly
 malformed_exactly l = (
-  (λ e w nine line. not_read w (sym e ∙ ap read_line line ∙ reading_complete w nine)),
+  (λ e w nine line. none-some w (sym e ∙ ap read_line line ∙ reading_complete w nine)),
   (λ none. unread (read_line l) refl none),
 )
   where
-    unread : (r : Reading) → read_line l ≡ r → ((w : Wall) → NineDigits (numbers_of w) → l ≡ line_of w → ⊥) → r ≡ Malformed
-    unread (Read w) e none = let sound = reading_sound l w e in absurd (none w sound.1 sound.0)
-    unread Malformed e none = refl
+    unread : (r : Option Wall) → read_line l ≡ r → ((w : Wall) → NineDigits (numbers_of w) → l ≡ line_of w → ⊥) → r ≡ None
+    unread (Some w) e none = let sound = reading_sound l w e in absurd (none w sound.1 sound.0)
+    unread None e none = refl
 
 pub worked_lines : WorkedLines
 unfolding counted_reading read_line taken taken_from run next answer digit_of count_of wall_of bytes worked

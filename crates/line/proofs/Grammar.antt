@@ -10,6 +10,9 @@ use lib.Seq.{drop-cons, take_all}
 use borrow.Author.Tests.{eqb-true}
 use Rattle.text.specs.Decimal.{decimal}
 use Rattle.walls.specs.Check.{numbers_of}
+use Rattle.line.specs.declared.kind.Kind.{Kind}
+use Rattle.line.specs.declared.kind.Kind.TheVariants.{Storey, Cellar}
+use Rattle.line.specs.Kind.{kind_letter}
 use Rattle.line.specs.Grammar.{fields, NineDigits, count_of, letter_of}
 use Rattle.line.specs.Reading.{wall_of}
 use Rattle.basis.proofs.Choice.{cond_cases}
@@ -40,6 +43,12 @@ letter_cases P storey cellar c =
     (λ e. cond_cases (λ (n : ℕ). 0 < n → P c) (eqb c 67)
     (λ e h. subst P (sym (eqb-true c 67 e)) cellar)
     (λ e h. absurd (not-suc-le-zero h)))
+
+-- Numbers follow the letter of each kind.
+pub kind_some : (kind : Kind) → 0 < count_of (kind_letter kind)
+unfolding count_of
+kind_some Storey = omega arith
+kind_some Cellar = omega arith
 
 -- No letter has more numbers than `S`.
 pub count_most : (c : ℕ) → count_of c ≤ count_of 83

@@ -1,5 +1,7 @@
 -- Whatever is read as a record is the line of that record: a state other than `wrong` spells out the bytes that lead to it.
 -- c is the letter, ns are the numbers before, d and v how many digits there are and their value.
+use Rattle.std.proofs.Common.{Some}
+use Rattle.std.proofs.lemmas.Option.{none-some, cond_some}
 use Prim.Native.Nat.{ℕ, ◌+◌, ◌*◌, ◌^◌, ◌≤◌, ◌<◌, zero, suc}
 use mathlib.Core.Bool.{false, cond, ◌&&◌, ◌||◌}
 use mathlib.Core.Path.{◌≡◌, sym, ap, ◌∙◌}
@@ -10,8 +12,6 @@ use lib.Dec.{ltb, eqb}
 use lib.ListN.{length, length-append}
 use borrow.Author.Tests.{eq-eqb, ne_eqb, eqb-true, eqb-false, ltb-true, ltb-false}
 use Rattle.walls.specs.declared.Wall.{Wall}
-use Rattle.line.specs.declared.Reading.{Reading}
-use Rattle.line.specs.declared.Reading.TheVariants.{Read, Malformed}
 use Rattle.text.specs.Decimal.{decimal}
 use Rattle.walls.specs.Check.{numbers_of}
 use Rattle.line.specs.Grammar.{fields, NineDigits, count_of, letter_of, line_of}
@@ -122,27 +122,21 @@ unfolding run
 run_spells [] s l h = rw append-nil h
 run_spells (b ∷ m) s l h = rw append_assoc at (run_spells m (next s b) (l ++ b ∷ []) (next_spells s l b h))
 
-pub not_read : (w : Wall) {A : Type 0} → Malformed ≡ Read w → A
-not_read w e = let z : ◌≡◌ {A = ℕ} 0 1 = cc in absurd (omega arith)
-
-pub answer_spells : (s : State) (l : List ℕ) (w : Wall) → Spells s l → answer s ≡ Read w → (l ≡ line_of w) × NineDigits (numbers_of w)
+pub answer_spells : (s : State) (l : List ℕ) (w : Wall) → Spells s l → answer s ≡ Some w → (l ≡ line_of w) × NineDigits (numbers_of w)
 unfolding answer
-answer_spells start l w h e = not_read w e
-answer_spells (lettered c) l w h e = not_read w e
+answer_spells start l w h e = absurd (none-some w e)
+answer_spells (lettered c) l w h e = absurd (none-some w e)
 answer_spells (inside c ns d v) l w h e =
-    cond_cases (λ (r : Reading). r ≡ Read w → (l ≡ line_of w) × NineDigits (numbers_of w)) (ltb 0 d && eqb (length ns + 1) (count_of c))
-    (λ t read.
-    let all = ns ++ v ∷ [] in
+    let read = cond_some (ltb 0 d && eqb (length ns + 1) (count_of c)) (wall_of c (ns ++ v ∷ [])) w e in
+    let ended = read.0 in
     let digits : 0 < d = search (and_left, ltb-true) in
     let last : length ns + 1 ≡ count_of c = search (and_right, eqb-true) in
-    let count : length (ns ++ v ∷ []) ≡ count_of c = rw length-append last in
+    let all = ns ++ v ∷ [] in
+    let count : length all ≡ count_of c = rw length-append last in
     let some : 0 < count_of c = omega (arith, h.0.more) in
-    let same : w ≡ wall_of c (ns ++ v ∷ []) = cc in
-    let letter : letter_of w ≡ c = ap letter_of same ∙ letter_of_wall_of all c some in
-    let numbers : numbers_of w ≡ ns ++ v ∷ [] = ap numbers_of same ∙ numbers_of_wall_of all c some count in (
+    let letter : letter_of w ≡ c = ap letter_of (sym read.1) ∙ letter_of_wall_of all c some in
+    let numbers : numbers_of w ≡ all = ap numbers_of (sym read.1) ∙ numbers_of_wall_of all c some count in (
       h.2 ∙ rw (ne_eqb d 0 (λ e. omega arith), letter, numbers, fields_snoc),
       rw numbers (nine_digits_append ns (v ∷ []) h.0.nine (digits_nine h.1, tt)),
-    ))
-    (λ t read. not_read w read)
-    e
-answer_spells wrong l w h e = not_read w e
+    )
+answer_spells wrong l w h e = absurd (none-some w e)

@@ -1,7 +1,6 @@
 -- What is read is exactly the lines of the form, and bytes are taken up to and including the first wrong one, or all where there is none.
-use Rattle.std.specs.Prelude.{◌≡◌, List, ◌⊎◌, ◌↔◌, ℕ, ◌+◌, length}
+use Rattle.std.specs.Prelude.{◌≡◌, List, ◌⊎◌, ◌↔◌, ℕ, ◌+◌, length, Some, None}
 use Rattle.walls.specs.declared.Wall.{Wall}
-use Rattle.line.specs.declared.Reading.TheVariants.{Read, Malformed}
 use Rattle.walls.specs.Check.{numbers_of}
 use Rattle.line.specs.Grammar.{NineDigits, line_of, count_of, letter_of}
 use Rattle.line.specs.Beginning.{Wrong, FirstWrong, UpToFirstWrong, AllWhereNone}
@@ -13,16 +12,16 @@ CountOfNumbers = (wall : Wall) → count_of (letter_of wall) ≡ length (numbers
 
 -- Whatever is read as a record is the line of that record, and each of its numbers has 1 to 9 digits.
 abbrev pub ReadingSound : Type 0
-ReadingSound = (line : List ℕ) (wall : Wall) → read_line line ≡ Read wall → (line ≡ line_of wall) × NineDigits (numbers_of wall)
+ReadingSound = (line : List ℕ) (wall : Wall) → read_line line ≡ Some wall → (line ≡ line_of wall) × NineDigits (numbers_of wall)
 
 -- The line of a record whose numbers have 1 to 9 digits each is read as that record.
 abbrev pub ReadingComplete : Type 0
-ReadingComplete = (wall : Wall) → NineDigits (numbers_of wall) → read_line (line_of wall) ≡ Read wall
+ReadingComplete = (wall : Wall) → NineDigits (numbers_of wall) → read_line (line_of wall) ≡ Some wall
 
 -- Refusal 1 is given exactly if the bytes are "not a line of this form".
 abbrev pub MalformedExactly : Type 0
 MalformedExactly =
-    (line : List ℕ) → (read_line line ≡ Malformed) ↔ ((wall : Wall) → NineDigits (numbers_of wall) → line ≡ line_of wall → ⊥)
+    (line : List ℕ) → (read_line line ≡ None) ↔ ((wall : Wall) → NineDigits (numbers_of wall) → line ≡ line_of wall → ⊥)
 
 -- Document 02, #104: "how many bytes it has taken: up to and including the first wrong byte, or all where there is none." Of every line one of the two holds.
 abbrev pub TakenExactly : Type 0

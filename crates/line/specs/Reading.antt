@@ -1,15 +1,15 @@
 -- What a line is read as, and how many of its bytes are taken.
-use Rattle.std.specs.Prelude.{ℕ, ◌+◌, ◌≤◌, ◌<◌, cond, ◌&&◌, List, [], ◌∷◌, ◌++◌, ◌≡◌, ltb, eqb, length, get_or}
+use Rattle.std.specs.Prelude.{ℕ, ◌+◌, cond, ◌&&◌, List, [], ◌∷◌, ◌++◌, ◌≡◌, ltb, eqb, length, Option, Some, None}
 use Rattle.basis.specs.declared.CheckResult.{CheckResult}
 use Rattle.basis.specs.Result.{refused_with}
 use Rattle.storey.specs.Record.{storey_of}
 use Rattle.cellar.specs.Record.{cellar_of}
 use Rattle.walls.specs.declared.Wall.{Wall}
 use Rattle.walls.specs.declared.Wall.TheVariants.{Storey, Cellar}
-use Rattle.line.specs.declared.Reading.{Reading}
-use Rattle.line.specs.declared.Reading.TheVariants.{Read, Malformed}
 use Rattle.line.specs.declared.CountedReading.{CountedReading}
+use Rattle.line.specs.declared.cursor.Cursor.{Cursor}
 use Rattle.line.specs.Grammar.{count_of}
+use Rattle.line.specs.Cursor.{rest}
 use Rattle.line.specs.Automaton.{State, start, lettered, inside, wrong, is_wrong, next, run}
 
 -- `S` is the letter of a storey wall, `C` that of a cellar wall.
@@ -17,14 +17,14 @@ unfoldable pub wall_of : ℕ → List ℕ → Wall
 wall_of letter numbers = cond (eqb letter 83) (Storey (storey_of numbers)) (Cellar (cellar_of numbers))
 
 -- A line may end only inside the last number that its letter asks for.
-unfoldable pub answer : State → Reading
-answer start = Malformed
-answer (lettered letter) = Malformed
+unfoldable pub answer : State → Option Wall
+answer start = None
+answer (lettered letter) = None
 answer (inside letter numbers digits value) =
-    cond (ltb 0 digits && eqb (length numbers + 1) (count_of letter)) (Read (wall_of letter (numbers ++ value ∷ []))) Malformed
-answer wrong = Malformed
+    cond (ltb 0 digits && eqb (length numbers + 1) (count_of letter)) (Some (wall_of letter (numbers ++ value ∷ []))) None
+answer wrong = None
 
-unfoldable pub read_line : List ℕ → Reading
+unfoldable pub read_line : List ℕ → Option Wall
 read_line line = answer (run line start)
 
 -- Document 02, #104: "how many bytes it has taken: up to and including the first wrong byte, or all where there is none." Behind a wrong byte none
@@ -39,15 +39,12 @@ taken line = taken_from line start
 unfoldable pub counted_reading : List ℕ → CountedReading
 counted_reading line = record { reading = read_line line; taken = taken line }
 
--- What `read_numbers` is handed: a line that begins with this letter and a space, and how many numbers the letter asks for.
-pub record NumbersInputs (line : List ℕ) (letter wanted : ℕ) : Type 0 where
-  pub long : 2 ≤ length line
-  pub first : letter ≡ get_or line 0 0
-  pub count : wanted ≡ count_of letter
-  pub some : 0 < wanted
-  pub space : get_or line 1 0 ≡ 32
+-- What a reader does that is in this state and has come to this place: it returns the answer, and takes these bytes more.
+pub record ReadFrom (state : State) (old : Cursor) (reading : Option Wall) (new : Cursor) : Type 0 where
+  pub answers : reading ≡ answer (run (rest old) state)
+  pub takes : new.taken ≡ old.taken + taken_from (rest old) state
 
--- The result of a reading. Malformed is refusal 1, "not a line of this form"; a record has the result of its own check.
-abbrev pub reading_result : (Wall → CheckResult) → Reading → CheckResult
-reading_result check (Read wall) = check wall
-reading_result check Malformed = refused_with 1
+-- The result of a reading. None is refusal 1, "not a line of this form"; a record has the result of its own check.
+abbrev pub reading_result : (Wall → CheckResult) → Option Wall → CheckResult
+reading_result check (Some wall) = check wall
+reading_result check None = refused_with 1

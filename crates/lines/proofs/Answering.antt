@@ -79,9 +79,9 @@ written_part result output at fits wrote =
       ap (λ (w : Written). w.count) wrote ∙ written_count result (take (length output - at) (drop at output)) (omega arith),
     )
 
--- The line begins at `taken` and ends at `end`.
+-- The line begins at `taken` and ends at `end`; behind it there is room for `rest` lines.
 module _
-    {block output₀ output : List ℕ} {left taken filled : ℕ} (end : ℕ) (a : Answering block output₀ output left taken filled) (some : 0 < left)
+    {block output₀ output : List ℕ} {left rest taken filled : ℕ} (end : ℕ) (a : Answering block output₀ output left taken filled) (one : left ≡ suc rest)
     (at : end ≡ taken + line_length (drop taken block)) (e : ended (drop taken block) ≡ true) where
   pub line_within : end < length block
   line_within = omega (arith, line_length_ended (drop taken block) e, length-drop taken block, a.within)
@@ -99,11 +99,10 @@ module _
   line_output = rw (line_taken, output_whole _ _ a.whole, output_line _ [] line_is_unended, output_none, append-nil)
 
   answering_line :
-      Answering block output₀ (overwrite output filled (line_text (take (end - taken) (drop taken block)))) (left - 1) (end + 1)
+      Answering block output₀ (overwrite output filled (line_text (take (end - taken) (drop taken block)))) rest (end + 1)
       (filled + length (line_text (take (end - taken) (drop taken block))))
   answering_line =
       let line = take (end - taken) (drop taken block) in
-      let one : left ≡ suc (left - 1) = omega arith in
       let next : taken + (line_length (drop taken block) + 1) ≡ end + 1 = omega arith in
       let behind : drop (line_length (drop taken block) + 1) (drop taken block) ≡ drop (end + 1) block = rw (drop-drop, next) in
       let fits : 0 + (length (output_of (take taken block)) + length (line_text line)) ≤ length output₀ = omega (arith, a.room, a.size, text_short line) in
@@ -114,8 +113,8 @@ module _
               arith,
               a.bytes,
               ap (λ (n : ℕ). ended_length n (drop taken block)) one,
-              ended_length_more (left - 1) (drop taken block) e,
-              ap (ended_length (left - 1)) behind,
+              ended_length_more rest (drop taken block) e,
+              ap (ended_length rest) behind,
             );
         whole = rw line_taken (whole_append _ _ a.whole (whole_line line [] line_is_unended whole_none));
         text = rw (line_output, a.text, a.size, ← overwrite_joins output₀ 0 (output_of (take taken block)) (line_text line) fits, zero-add);
@@ -127,7 +126,7 @@ module _
   pub answering_write :
       (result : CheckResult) {part : List ℕ} {count : ℕ} → result ≡ line_result (take (end - taken) (drop taken block))
       → record { buffer = part; count = count } ≡ written result (take (length output - filled) (drop filled output))
-      → Answering block output₀ (take filled output ++ (part ++ drop (length output - filled) (drop filled output))) (left - 1) (end + 1) (filled + count)
+      → Answering block output₀ (take filled output ++ (part ++ drop (length output - filled) (drop filled output))) rest (end + 1) (filled + count)
   unfolding line_text
   answering_write result is wrote =
       let line = take (end - taken) (drop taken block) in

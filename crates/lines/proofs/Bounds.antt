@@ -28,18 +28,18 @@ held_fits most input held =
     omega (arith, held_fewer (unanswered_of most bytes), length-drop (ended_length most bytes) bytes, length-take held input)
 
 module _
-    (input : List ℕ) (held : ℕ) (output : List ℕ) {progress : Progress} {input' output' : List ℕ}
-    (is : record { progress = progress; input = input'; output = output' } ≡ answered input held output) where
+    (input : List ℕ) (held : ℕ) (output : List ℕ) {progress : Progress} {input' output' : List ℕ} {left : ℕ}
+    (is : record { progress = progress; input = input'; held = left; output = output' } ≡ answered input held output) where
   pub written_within : progress.written ≤ length output
   unfolding answered
   written_within = omega (arith, ap (λ (a : Answered). a.progress.written) is, text_fits output (take held input))
 
-  pub held_within : progress.held ≤ length input
+  pub held_within : left ≤ length input
   unfolding answered
-  held_within = omega (arith, ap (λ (a : Answered). a.progress.held) is, held_fits (room_for output) input held)
+  held_within = omega (arith, ap (λ (a : Answered). a.held) is, held_fits (room_for output) input held)
 
   -- Where an ended line is left, at least one was taken.
-  pub held_falls : 64 ≤ length output → progress.more ≡ true → progress.held < held
+  pub held_falls : 64 ≤ length output → progress.more ≡ true → left < held
   unfolding answered
   held_falls room more =
       let most = room_for output in
@@ -49,7 +49,7 @@ module _
       let before : ended bytes ≡ true = split ∙ rw (behind, or-true) in
       omega (
         arith,
-        ap (λ (a : Answered). a.progress.held) is,
+        ap (λ (a : Answered). a.held) is,
         held_fewer (unanswered_of most bytes),
         answer_takes_lines most bytes (omega arith) before,
         length-take held input,

@@ -8,4 +8,3 @@ pub mod AnswerCall
 pub mod Bounds
 pub mod Claims
 pub mod WholeCase
-pub mod Moved

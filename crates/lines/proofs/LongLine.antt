@@ -1,4 +1,5 @@
 -- A line over 200 bytes is not of the form: a letter and its numbers, each a space and at most 9 digits, are fewer bytes.
+use Rattle.std.proofs.Common.{Option, Some, None}
 use Prim.Native.Nat.{ℕ, ◌*◌, ◌≤◌}
 use native.Mathlib.Omega.{arith}
 use mathlib.Core.List.{List, [], ◌∷◌}
@@ -11,8 +12,6 @@ use Rattle.basis.proofs.Choice.{cond_cases}
 use Rattle.walls.specs.declared.Wall.{Wall}
 use Rattle.walls.specs.declared.Wall.TheVariants.{Storey, Cellar}
 use Rattle.walls.specs.Check.{check}
-use Rattle.line.specs.declared.Reading.{Reading}
-use Rattle.line.specs.declared.Reading.TheVariants.{Read, Malformed}
 use Rattle.walls.specs.Check.{numbers_of}
 use Rattle.line.specs.Grammar.{fields, NineDigits, line_of}
 use Rattle.line.specs.Reading.{read_line, reading_result}
@@ -35,9 +34,9 @@ pub long_line_malformed : LongLineMalformed
 unfolding line_result
 long_line_malformed line long = unread (read_line line) refl
   where
-    unread : (r : Reading) → read_line line ≡ r → reading_result check (read_line line) ≡ refused_with 1
-    unread (Read w) e = let sound = reading_sound line w e in absurd (omega (arith, ap length sound.0, line_length_lem w sound.1))
-    unread Malformed e = rw e
+    unread : (r : Option Wall) → read_line line ≡ r → reading_result check (read_line line) ≡ refused_with 1
+    unread (Some w) e = let sound = reading_sound line w e in absurd (omega (arith, ap length sound.0, line_length_lem w sound.1))
+    unread None e = rw e
 
 -- So the check of the whole line gives the program's result, with no test of its length.
 pub schedule_result_lem : (line : List ℕ) → schedule_result line ≡ line_result line

@@ -31,6 +31,7 @@ room_for output = length output / 64
 pub record Answered : Type 0 where
   pub progress : Progress
   pub input : List ℕ
+  pub held : ℕ
   pub output : List ℕ
 
 unfoldable pub answered : List ℕ → ℕ → List ℕ → Answered
@@ -40,8 +41,9 @@ answered input held output =
     let text = output_of (answered_of most bytes) in
     let rest = unanswered_of most bytes in
     record {
-      progress = record { held = length (held_of rest); written = length text; more = ended rest };
+      progress = record { written = length text; more = ended rest };
       input = overwrite input 0 (held_of rest);
+      held = length (held_of rest);
       output = overwrite output 0 text;
     }
 

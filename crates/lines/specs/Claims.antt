@@ -30,7 +30,7 @@ RunPrintsOutput = (input text rest : List ℕ) → Run [] input text rest → en
 -- A call of `answer` is a step of a run: what is at hand behind it stands first in the input, the text first in the output, and `more`
 -- says whether an ended line is at hand.
 pub record IsStep (input : List ℕ) (held : ℕ) (output : List ℕ) (after : Answered) : Type 0 where
-  pub bytes : take after.progress.held after.input ≡ held_of (unanswered_of (room_for output) (take held input))
+  pub bytes : take after.held after.input ≡ held_of (unanswered_of (room_for output) (take held input))
   pub text : take after.progress.written after.output ≡ output_of (answered_of (room_for output) (take held input))
   pub more : after.progress.more ≡ ended (held_of (unanswered_of (room_for output) (take held input)))
 

@@ -11,7 +11,7 @@ use Rattle.buffer.proofs.Overwrite.{overwrite_start}
 use Rattle.text.specs.Decimal.{decimal}
 use Rattle.report.specs.Text.{signed, result_text}
 use Rattle.report.specs.Reading.{read_number, read_signed, read_result, TextReadsBack, BufferReadsBack}
-use Rattle.report.proofs.Text.{text_from_refusal, append_cons}
+use Rattle.report.proofs.Text.{text_in_order, append_cons}
 use Rattle.text.proofs.Decimal.{by_digits, decimal_digit, decimal_more}
 
 -- ── a number ──
@@ -48,7 +48,7 @@ read_signed_text stop h (negsuc n) rest = ap (λ r. neg_ℤ (pos r.0)) (read_num
 -- ── the result ──
 pub text_reads_back : TextReadsBack
 unfolding read_result
-text_reads_back r behind = rw text_from_refusal (simp append_cons (simp (read_number_text 32 (lit< tt), read_signed_text 10 (lit< tt))))
+text_reads_back r behind = rw text_in_order (simp append_cons (simp (read_number_text 32 (lit< tt), read_signed_text 10 (lit< tt))))
 
 pub buffer_reads_back : BufferReadsBack
 buffer_reads_back r buffer fits = ap read_result (overwrite_start buffer (result_text r) fits) ∙ text_reads_back r (drop (length (result_text r)) buffer)

@@ -35,25 +35,14 @@ text_fits r refusal second load resistance spare =
       signed_length 10 r.spare spare,
     )
 
--- ── the text from each of its numbers on ──
-abbrev pub from_spare : CheckResult → List ℕ
-from_spare r = signed r.spare ++ 10 ∷ []
-
-abbrev pub from_resistance : CheckResult → List ℕ
-from_resistance r = decimal r.resistance ++ 32 ∷ from_spare r
-
-abbrev pub from_load : CheckResult → List ℕ
-from_load r = decimal r.load ++ 32 ∷ from_resistance r
-
-abbrev pub from_second : CheckResult → List ℕ
-from_second r = decimal r.second ++ 32 ∷ from_load r
-
-abbrev pub from_refusal : CheckResult → List ℕ
-from_refusal r = decimal r.refusal ++ 32 ∷ from_second r
+-- ── its numbers, one behind the other ──
+abbrev pub in_order : CheckResult → List ℕ
+in_order r =
+    decimal r.refusal ++ 32 ∷ (decimal r.second ++ 32 ∷ (decimal r.load ++ 32 ∷ (decimal r.resistance ++ 32 ∷ (signed r.spare ++ 10 ∷ []))))
 
 pub append_cons : (a : List ℕ) (byte : ℕ) (b rest : List ℕ) → a ++ byte ∷ b ++ rest ≡ a ++ byte ∷ (b ++ rest)
 append_cons a byte b rest = append_assoc a (byte ∷ b) rest
 
-pub text_from_refusal : (r : CheckResult) → result_text r ≡ from_refusal r
+pub text_in_order : (r : CheckResult) → result_text r ≡ in_order r
 unfolding result_text
-text_from_refusal r = simp append_cons
+text_in_order r = simp append_cons

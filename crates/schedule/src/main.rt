@@ -5,9 +5,8 @@
 // buffer that it is lent and returns their number, that `write_all` hands on the bytes that it is lent, and that both return.
 #![tactic(auto)]
 
-ghost use Rattle.std.specs.Prelude.{◌≤◌, length};
-ghost use Rattle.schedule.specs.Rest.{Within};
-
+use lines::Input;
+use std::fmt;
 use std::io::Read;
 
 // How much is read at once. What is answered of it is written at once too, where a result line is at most twice as long as its line.
@@ -15,89 +14,82 @@ const INPUT: usize = 131072;
 
 const OUTPUT: usize = 262144;
 
-#[derive(Clone, Copy)]
-enum Rest {
-    // This many bytes stand first in the input and are not answered yet.
-    Held(usize),
-    // The input has ended, or reading or writing has failed, which is told on standard error.
-    Over,
+// What ends the program before its input does.
+#[derive(Clone, Copy, Debug, PartialEq, Eq)]
+enum Failure {
+    Read,
+    Write,
 }
 
-// Tells an error. Where that cannot be written either, there is nothing left to do.
-fn fail(rt: &impl Eprint, message: &str) {
-    match rt.eprintln(message) {
-        Ok(()) => {}
-        Err(_) => {}
+impl fmt::Display for Failure {
+    fn fmt<W: fmt::Write>(&self, f: &mut fmt::Formatter<W>) -> fmt::Result {
+        f.write_str(match self {
+            Failure::Read => "cannot read standard input",
+            Failure::Write => "cannot write standard output",
+        })
     }
 }
 
-// Writes the first `count` bytes of `output`.
-fn write(rt: &(impl Print + Eprint), output: &[u8], count: usize) -> bool
-    requires { count ≤ length output.now }
-{
-    let written = rt.write_all(&output[..count]).is_ok();
-    if !written {
-        fail(rt, "schedule: cannot write standard output");
-    }
-    written
+fn write(rt: &impl Print, text: &[u8]) -> Result<(), Failure> {
+    rt.write_all(text).map_err(|_| Failure::Write)
 }
 
-// Answers the ended lines among the first `held` bytes of `input`.
-fn answer_all(rt: &(impl Print + Eprint), input: &mut [u8], held: usize, output: &mut [u8]) -> Rest
-    requires { (held ≤ length input.old) × (64 ≤ length output.old) }
-    ensures { Within (length input.new) result }
-{
-    let mut left = held;
-    let mut more = true;
-    while more {
-        let progress = lines::answer(input, left, output);
-        if !write(rt, output, progress.written) {
-            return Rest::Over;
+// Answers the ended lines among the bytes held.
+fn answer_all(
+    rt: &impl Print,
+    input: &mut Input<'_>,
+    output: &mut [u8; OUTPUT],
+) -> Result<(), Failure> {
+    loop {
+        let progress = input.answer(output);
+        write(rt, &output[..progress.written])?;
+        if !progress.more {
+            return Ok(());
         }
-        left = progress.held;
-        more = progress.more;
     }
-    Rest::Held(left)
 }
 
-// Reads behind the first `held` bytes of `input`, and answers.
-fn turn<R: Print + Eprint, I: Read>(
+// Reads behind the bytes held, and answers. Whether there may be more to read.
+fn turn<R: Print, I: Read>(
     rt: &R,
     reader: &mut I,
-    input: &mut [u8],
-    held: usize,
-    output: &mut [u8],
-) -> Rest
-    requires { (held ≤ length input.old) × (64 ≤ length output.old) }
-    ensures { Within (length input.new) result }
-{
-    let Ok(count) = reader.read(&mut input[held..]) else {
-        fail(rt, "schedule: cannot read standard input");
-        return Rest::Over;
-    };
+    input: &mut Input<'_>,
+    output: &mut [u8; OUTPUT],
+) -> Result<bool, Failure> {
+    let count = reader
+        .read(&mut input.buffer[input.held..])
+        .map_err(|_| Failure::Read)?;
     if count == 0 {
-        let count = lines::answer_last(&input[..held], output);
-        write(rt, output, count);
-        return Rest::Over;
+        let written = lines::answer_last(&input.buffer[..input.held], output);
+        write(rt, &output[..written])?;
+        return Ok(false);
     }
-    answer_all(rt, input, held + count, output)
+    input.held += count;
+    answer_all(rt, input, output)?;
+    Ok(true)
 }
 
 // Nothing says that an input ends, so the turns are counted, up to a number that no run reaches.
-fn run<R: Print + Eprint, I: Read>(rt: &R, reader: &mut I, input: &mut [u8], output: &mut [u8])
-    requires { 64 ≤ length output.old }
-{
-    let mut held = 0;
+fn run<R: Print, I: Read>(
+    rt: &R,
+    reader: &mut I,
+    input: &mut Input<'_>,
+    output: &mut [u8; OUTPUT],
+) -> Result<(), Failure> {
     for _ in 0..u64::MAX {
-        let Rest::Held(left) = turn(rt, reader, input, held, output) else {
-            return;
-        };
-        held = left;
+        if !turn(rt, reader, input, output)? {
+            break;
+        }
     }
+    Ok(())
 }
 
 fn main(rt: HostRuntime) {
-    let mut input = [0u8; INPUT];
+    let mut buffer = [0u8; INPUT];
     let mut output = [0u8; OUTPUT];
-    run(&rt, &mut rt.stdin(), &mut input, &mut output);
+    let mut input = Input::new(&mut buffer, 0);
+    if let Err(failure) = run(&rt, &mut rt.stdin(), &mut input, &mut output) {
+        // Where that cannot be written either, there is nothing left to do.
+        let _ = eprintln!(rt; "schedule: {failure}");
+    }
 }

@@ -4,27 +4,19 @@ use mathlib.Core.Bool.{Bool, true, false, cond, ◌&&◌}
 use mathlib.Core.Path.{◌≡◌, ◌∙◌, refl, ap}
 use native.Mathlib.Omega.{arith}
 use native.Mathlib.Nat.{mul-le-mul, mul-pos}
-use borrow.Author.Tests.{eqb-true}
+use borrow.Author.Tests.{eqb-true, le-leb, lt-leb}
 use lib.Dec.{leb, eqb}
 use Rattle.basis.specs.Fraction.{Fraction, ◌÷◌, whole, ceil}
 use Rattle.basis.proofs.Choice.{cond_cases, and_left}
 use Rattle.basis.proofs.Fraction.{ceil_larger, ceil_whole, larger_den}
 use Rattle.storey.specs.declared.StoreyWall.{StoreyWall}
 use Rattle.storey.specs.Range.{in_range}
-use Rattle.storey.specs.BucklingLength.{bearing_suffices, factor, two_sides, three_sides, four_sides, length_of, CurvedInputs, LengthInputs, exact_length}
+use Rattle.storey.specs.BucklingLength.{bearing_suffices, factor, two_sides, three_sides, four_sides, length_of, exact_length}
 use Rattle.storey.proofs.Range.{in_ranges, distance_bounds}
 
--- Products
-
-module _ (n c k : ℕ) (inputs : CurvedInputs n c k) where
-  pub square_most : c * c ≤ 900000000
-  square_most = mul-le-mul inputs.distance_most inputs.distance_most
-
-  pub scaled_square_most : n * (c * c) ≤ 1620000000000
-  scaled_square_most = mul-le-mul inputs.scale_most square_most
-
-  pub scaled_product_most : n * (c * c) * k ≤ 648000000000000000
-  scaled_product_most = mul-le-mul scaled_square_most inputs.product_most
+-- The greatest product.
+pub scaled_product_most : (n c k : ℕ) → n ≤ 1800 → c ≤ 30000 → k ≤ 400000 → n * (c * c) * k ≤ 648000000000000000
+scaled_product_most n c k scale distance product = mul-le-mul (mul-le-mul scale (mul-le-mul distance distance)) product
 
 -- The denominator on three and four sides is above 0.
 pub sum_of_squares : (m c k : ℕ) → 0 < m → 1 ≤ c → 0 < m * (c * c) + k * k
@@ -49,14 +41,33 @@ module _ (w : StoreyWall) (passed : in_range w ≡ true) where
   pub product_most : factor w.thickness w.bearing * w.height ≤ 400000
   product_most = mul-le-mul {m₂ = 20000} (factor_most w.thickness w.bearing) (omega (arith, in_ranges w passed))
 
-  pub length_inputs : eqb w.held 2 ≡ false → LengthInputs w.height w.distance (factor w.thickness w.bearing * w.height)
-  length_inputs further =
-      record {
-        height_most = omega (arith, in_ranges w passed);
-        distance_least = (distance_bounds w passed further).0;
-        distance_most = (distance_bounds w passed further).1;
-        product_most = product_most;
-      }
+-- The length as the code chooses it.
+
+module _ (w : StoreyWall) where
+  abbrev product : ℕ
+  product = factor w.thickness w.bearing * w.height
+
+  pub length_two : 2 ≡ w.held → exact_length w ≡ two_sides product
+  unfolding exact_length length_of
+  length_two two = rw (← two) refl
+
+  pub length_three : 3 ≡ w.held → w.distance ≤ 15 * w.thickness → exact_length w ≡ three_sides w.height w.distance product
+  unfolding exact_length length_of
+  length_three three near = rw (← three, le-leb w.distance (15 * w.thickness) near) refl
+
+  pub length_three_far : 3 ≡ w.held → 15 * w.thickness < w.distance → exact_length w ≡ two_sides product
+  unfolding exact_length length_of
+  length_three_far three far = rw (← three, lt-leb w.distance (15 * w.thickness) far) refl
+
+  pub length_four : 4 ≡ w.held → w.distance ≤ 30 * w.thickness → exact_length w ≡ four_sides w.height w.distance product
+  unfolding exact_length length_of
+  length_four four near = rw (← four, le-leb w.distance (30 * w.thickness) near) refl
+
+  pub length_four_far : 4 ≡ w.held → 30 * w.thickness < w.distance → exact_length w ≡ two_sides product
+  unfolding exact_length length_of
+  length_four_far four far = rw (← four, lt-leb w.distance (30 * w.thickness) far) refl
+
+pub ruleset lengths = (product_most, length_two, length_three, length_three_far, length_four, length_four_far)
 
 -- A wall held on n sides, n not 2, is held on more than two sides.
 pub held_further : (held n : ℕ) (near : Bool) → (eqb held n && near) ≡ true → eqb n 2 ≡ false → eqb held 2 ≡ false

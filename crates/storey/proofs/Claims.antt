@@ -9,7 +9,7 @@ use Rattle.basis.specs.Fraction.{whole}
 use Rattle.basis.specs.Result.{Below}
 use Rattle.basis.proofs.Check as AnyCheck
 use Rattle.basis.proofs.Fraction.{ceil_rounds_up, floor_rounds_down}
-use Rattle.basis.proofs.Refusal.{NoneApplies-split}
+use Rattle.basis.proofs.FirstRefusal.{NoneApplies-split}
 use Rattle.storey.specs.declared.StoreyWall.{StoreyWall}
 use Rattle.storey.specs.Span.{governing_span, span_reduced, support_span}
 use Rattle.storey.specs.BucklingLength.{exact_length, buckling_length}

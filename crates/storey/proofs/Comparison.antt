@@ -12,7 +12,7 @@ use Rattle.basis.specs.Fraction.{Fraction, ◌÷◌, whole, ◌≼◌, times, mi
 use Rattle.basis.specs.Refusal.{NoneApplies}
 use Rattle.basis.proofs.Choice.{cond_pair, cond_same, and_left, Implies, implies_and, implies_or, above_grows, below_falls}
 use Rattle.basis.proofs.Fraction.{≼_refl, larger_mono, times_mono, minus_mono, minus_den, smaller_mono, ceil_mono, floor_mono}
-use Rattle.basis.proofs.Refusal.{EachImplies, done, ◌then◌, none_kept}
+use Rattle.basis.proofs.FirstRefusal.{EachImplies, done, ◌then◌, none_kept}
 use Rattle.storey.specs.declared.StoreyWall.{StoreyWall}
 use Rattle.storey.specs.Range.{in_range}
 use Rattle.storey.specs.BucklingLength.{bearing_suffices, factor, two_sides, three_sides, four_sides, length_of, exact_length, buckling_length}

@@ -1,12 +1,12 @@
 -- Laws of the load.
-use Prim.Native.Nat.{ℕ, ◌+◌, ◌*◌, ◌≤◌, ◌<◌}
+use Prim.Native.Nat.{ℕ, ◌+◌, ◌*◌, ◌≤◌, ◌<◌, min}
 use mathlib.Core.Bool.{true}
-use mathlib.Core.Path.{◌≡◌, refl}
+use mathlib.Core.Path.{◌≡◌, refl, ap}
 use native.Mathlib.Nat.{le_trans}
 use native.Mathlib.Omega.{arith}
 use borrow.Author.Tests.{le-leb, lt-leb, leb-true, leb-false}
 use lib.Dec.{leb}
-use Rattle.basis.specs.Fraction.{Fraction, ◌≼◌, smaller}
+use Rattle.basis.specs.Fraction.{Fraction, ◌÷◌, ◌≼◌, smaller}
 use Rattle.basis.specs.Load.{LoadRounded}
 use Rattle.basis.proofs.Choice.{cond_cases, cond_pair}
 use Rattle.basis.proofs.Fraction.{≼_refl, ≼_trans, smaller_den, smaller_right, smaller_mono}
@@ -67,12 +67,10 @@ module _ (G Q q : ℕ) where
   unfolding load_of
   load_above above = rw (lt-leb q 3000 above) refl
 
-  pub load_simplified : q ≤ 3000 → 140 * (G + Q) ≤ 135 * G + 150 * Q → simplified_load G Q ≡ load_of G Q q
+  pub load_up_to : q ≤ 3000 → (min (140 * (G + Q)) (135 * G + 150 * Q) ÷ 100) ≡ load_of G Q q
   unfolding load_of smaller
-  load_simplified up_to_lem no_greater =
-      rw (le-leb q 3000 up_to_lem, le-leb (140 * (G + Q) * 100) ((135 * G + 150 * Q) * 100) (omega (arith, no_greater))) refl
-
-  pub load_general : q ≤ 3000 → 135 * G + 150 * Q < 140 * (G + Q) → general_load G Q ≡ load_of G Q q
-  unfolding load_of smaller
-  load_general up_to_lem less =
-      rw (le-leb q 3000 up_to_lem, lt-leb (140 * (G + Q) * 100) ((135 * G + 150 * Q) * 100) (omega (arith, less))) refl
+  load_up_to up_to_lem =
+      rw (le-leb q 3000 up_to_lem)
+      (cond_cases (λ (f : Fraction). (min (140 * (G + Q)) (135 * G + 150 * Q) ÷ 100) ≡ f) (leb (140 * (G + Q) * 100) ((135 * G + 150 * Q) * 100))
+      (λ no_greater. ap (λ (n : ℕ). n ÷ 100) (omega (arith, leb-true (140 * (G + Q) * 100) ((135 * G + 150 * Q) * 100) no_greater)))
+      (λ greater. ap (λ (n : ℕ). n ÷ 100) (omega (arith, leb-false (140 * (G + Q) * 100) ((135 * G + 150 * Q) * 100) greater))))

@@ -1,11 +1,11 @@
 -- What a passed range test says of the record.
-use Prim.Native.Nat.{ℕ, zero, suc, ◌≤◌, ◌*◌}
+use Prim.Native.Nat.{ℕ, zero, suc, ◌≤◌, ◌<◌, ◌*◌}
 use mathlib.Core.Bool.{Bool, true, false, cond, not, ◌&&◌, ◌||◌}
 use mathlib.Core.List.{map}
 use mathlib.Core.Path.{◌≡◌, refl}
 use native.Mathlib.Omega.{arith}
 use native.Mathlib.Nat.{mul-le-mul}
-use borrow.Author.Tests.{lt-leb, ne_eqb}
+use borrow.Author.Tests.{lt-leb, eq-eqb, ne_eqb}
 use lib.Dec.{eqb, leb, leb-zero}
 use Rattle.basis.specs.Range.{within, AllWithin, AllBelow}
 use Rattle.basis.proofs.Choice.{cond_cases, chain}
@@ -32,6 +32,35 @@ module _ (w : StoreyWall) (passed : in_range w ≡ true) where
   unfolding in_range
   in_ranges = within_all (ranges w) passed
 
+  -- Single bounds, for the search.
+
+  pub thickness_least : 1 ≤ w.thickness
+  thickness_least = omega (arith, in_ranges)
+
+  pub thickness_most : w.thickness ≤ 1000
+  thickness_most = omega (arith, in_ranges)
+
+  pub height_most : w.height ≤ 20000
+  height_most = omega (arith, in_ranges)
+
+  pub span_most : w.span ≤ 20000
+  span_most = omega (arith, in_ranges)
+
+  pub other_span_most : w.otherspan ≤ 20000
+  other_span_most = omega (arith, in_ranges)
+
+  pub bearing_most : w.bearing ≤ w.thickness
+  bearing_most = omega (arith, in_ranges)
+
+  pub strength_most : w.strength ≤ 5000
+  strength_most = omega (arith, in_ranges)
+
+  pub dead_most : w.dead ≤ 10000000
+  dead_most = omega (arith, in_ranges)
+
+  pub imposed_most : w.imposed ≤ 10000000
+  imposed_most = omega (arith, in_ranges)
+
   -- Held on more than two sides, the distance is 1..30000.
   pub distance_bounds : eqb w.held 2 ≡ false → (1 ≤ w.distance) × (w.distance ≤ 30000)
   distance_bounds further =
@@ -39,6 +68,20 @@ module _ (w : StoreyWall) (passed : in_range w ≡ true) where
       let low : cond (eqb w.held 2) 0 1 ≤ w.distance = omega arith in
       let high : w.distance ≤ cond (eqb w.held 2) 0 30000 = omega arith in
       (rw further at low, rw further at high)
+
+  pub distance_least : 2 < w.held → 1 ≤ w.distance
+  distance_least further = (distance_bounds (ne_eqb w.held 2 (λ h. omega (arith, h, further)))).0
+
+  pub distance_most : 2 < w.held → w.distance ≤ 30000
+  distance_most further = (distance_bounds (ne_eqb w.held 2 (λ h. omega (arith, h, further)))).1
+
+  -- Held on two sides, the distance is 0.
+  pub no_distance : w.held ≡ 2 → w.distance ≡ 0
+  no_distance two =
+      let all = in_ranges in
+      let high : w.distance ≤ cond (eqb w.held 2) 0 30000 = omega arith in
+      let none : w.distance ≤ 0 = rw (eq-eqb w.held 2 two) at high in
+      omega arith
 
   pub area_most : w.length * w.thickness ≤ 20000000
   area_most = let all = in_ranges in mul-le-mul {n₂ = 20000} {m₂ = 1000} (omega arith) (omega arith)
@@ -49,3 +92,5 @@ module _ (w : StoreyWall) (passed : in_range w ≡ true) where
       let all = in_ranges in
       let distance : cond (eqb w.held 2) 0 30000 ≤ 30000 = cond_cases (λ (n : ℕ). n ≤ 30000) (eqb w.held 2) (λ _. omega arith) (λ _. omega arith) in
       omega arith
+
+pub ruleset bounds = (thickness_least, thickness_most, height_most, distance_least, distance_most, span_most, other_span_most, bearing_most, strength_most, dead_most, imposed_most, area_most)

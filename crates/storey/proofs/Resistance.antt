@@ -1,13 +1,13 @@
 -- Laws of the resistance: that its products fit, that the code's quotients are the definition's, and how it follows the record.
 use Prim.Native.Nat.{ℕ, ◌-◌, ◌*◌, ◌/◌, ◌≤◌, ◌<◌, min}
-use mathlib.Core.Bool.{Bool, true, false, ◌||◌}
-use mathlib.Core.Path.{◌≡◌, ◌∙◌, refl, sym, ap}
+use mathlib.Core.Bool.{true, ◌||◌}
+use mathlib.Core.Path.{◌≡◌, refl, sym, ap}
 use native.Mathlib.Omega.{arith}
-use native.Mathlib.Nat.{mul-le-mul, mul-le-mul_right, le_of_mul-le-mul_right, mul-one, mul-sub, sub-eq-zero_of_le, zero-div, mul-zero}
+use native.Mathlib.Nat.{mul-le-mul, mul-le-mul_right, le_of_mul-le-mul_right, mul-one, mul-sub}
 use lib.Dec.{eqb, ltb}
 use Rattle.basis.specs.Fraction.{Fraction, ◌÷◌, whole, ◌≼◌, ◌≈◌, times, minus, smaller, floor}
-use borrow.Author.Tests.{ltb-true, ltb-false}
-use Rattle.basis.proofs.Choice.{cond_cases, or_left, or_right}
+use borrow.Author.Tests.{ne_eqb}
+use Rattle.basis.proofs.Choice.{cond_cases}
 use Rattle.basis.proofs.Fraction.{
   ≼_refl,
   ≼_trans,
@@ -24,26 +24,20 @@ use Rattle.basis.proofs.Fraction.{
   minus_den,
 }
 use Rattle.storey.specs.declared.StoreyWall.{StoreyWall}
+use Rattle.storey.specs.declared.in_range.Support.{Support}
+use Rattle.storey.specs.declared.in_range.Support.TheVariants.{Intermediate, UnderFloor, UnderRoof, CentringStrip}
+use Rattle.storey.specs.Kinds.{support_number}
 use Rattle.storey.specs.Range.{in_range}
 use Rattle.storey.specs.BucklingLength.{buckling_length}
 use Rattle.storey.specs.Span.{support_span}
 use Rattle.storey.proofs.Range.{in_ranges}
 use Rattle.storey.proofs.Span.{support_span_den}
-use Rattle.storey.specs.Resistance.{at_mid_height, support_factor, at_support, reduction_fifths, reduction, support_factor_of, unreduced, exact_resistance, resistance, SupportInputs, SupportFactor}
+use Rattle.storey.specs.Resistance.{at_mid_height, support_factor, at_support, reduction_fifths, reduction, support_factor_of, unreduced, exact_resistance, resistance, SupportFactor}
 
--- Products
-
-module _ (fifths m a F : ℕ) (inputs : SupportInputs fifths m a F) where
-  pub strength_bearing_most : 17 * F * a ≤ 85000000
-  strength_bearing_most =
-      let product : F * a ≤ 5000000 = mul-le-mul inputs.strength_most inputs.bearing_most in
-      omega arith
-
-  pub support_part_most : fifths * (17 * F * a) ≤ 425000000
-  support_part_most = mul-le-mul {n₂ = 5} {m₂ = 85000000} inputs.fifths_most strength_bearing_most
-
-  pub support_product_most : fifths * (17 * F * a) * m ≤ 45900000000000
-  support_product_most = mul-le-mul support_part_most inputs.factor_most
+-- The greatest product at the support.
+pub support_product_most : (fifths m a F : ℕ) → fifths ≤ 5 → m ≤ 108000 → a ≤ 1000 → F ≤ 5000 → fifths * (17 * F * a) * m ≤ 45900000000000
+support_product_most fifths m a F fifth factor bearing strength =
+    mul-le-mul {n₂ = 425000000} (mul-le-mul {n₂ = 5} fifth (mul-le-mul {n₂ = 85000} (omega arith) bearing)) factor
 
 -- The code's quotients
 
@@ -55,13 +49,6 @@ unfolding floor times minus at_mid_height
 mid_height_quotient fifths t a F E =
     rw (mul-one (850000 * a * t), mul-one (11 * (E * E)), mul-one (3000000 * t))
     (ap (λ (n : ℕ). n / (5 * (3000000 * t))) (omega arith))
-
--- 0 where the slenderness takes all.
-pub mid_height_none : (fifths t a F E : ℕ) → 850000 * a * t ≤ 11 * (E * E) →
-    0 ≡ floor (times (fifths ÷ 5) (at_mid_height t a F (whole E)))
-mid_height_none fifths t a F E below =
-    sym (rw (sub-eq-zero_of_le below, mul-zero (fifths * (17 * F)), zero-div (5 * (3000000 * t))) refl)
-    ∙ mid_height_quotient fifths t a F E
 
 -- What a span l, in twentieths, leaves of 9600 is the smaller of both exactly where l is at least 84000: 9600 − 4200 is 5400.
 pub under_floor : (l m : ℕ) (L : Fraction) → 0 < L.den → (l ÷ 20) ≈ L → m ≡ min 108000 (192000 - l) →
@@ -81,6 +68,14 @@ under_floor l m L positive same is =
           omega (arith, product));
       most = omega arith;
     }
+
+-- For supports 1 and 4.
+pub other_support : (s : Support) (L : Fraction) → (s ≡ UnderFloor → ⊥) → (s ≡ UnderRoof → ⊥) → SupportFactor 108000 (support_factor (support_number s) L)
+unfolding support_factor
+other_support Intermediate L floor roof = record { value = refl; most = omega arith }
+other_support UnderFloor L floor roof = absurd (floor refl)
+other_support UnderRoof L floor roof = absurd (roof refl)
+other_support CentringStrip L floor roof = record { value = refl; most = omega arith }
 
 pub support_factor_den : (support : ℕ) (L : Fraction) → 0 < L.den → 0 < (support_factor support L).den
 unfolding support_factor
@@ -119,43 +114,36 @@ support_same fifths m a F f positive value =
     (times_den (fifths ÷ 5) (times part f) (omega arith) (times_den part f (omega arith) positive))
     (times_same (fifths ÷ 5) (times part (m ÷ 20)) (fifths ÷ 5) (times part f) refl (times_same part (m ÷ 20) part f refl value))
 
+-- Support 1 is the intermediate one.
+pub intermediate_support : (s : Support) → support_number s ≡ 1 → s ≡ Intermediate
+intermediate_support Intermediate is = refl
+intermediate_support UnderFloor is = absurd (let no· : ⊥ = omega (arith, is) in no·)
+intermediate_support UnderRoof is = absurd (let no· : ⊥ = omega (arith, is) in no·)
+intermediate_support CentringStrip is = absurd (let no· : ⊥ = omega (arith, is) in no·)
+
 -- The reported resistance from the two rounded parts of the code: the one at mid-height for support 1, else the smaller of both.
-module _ (w : StoreyWall) (least : 1 ≤ w.thickness) where
+module _ (w : StoreyWall) where
   abbrev middle : Fraction
   middle = at_mid_height w.thickness w.bearing w.strength (whole (buckling_length w))
 
   abbrev end : Fraction
   end = at_support w.bearing w.strength (support_factor_of w)
 
-  middle_den : 0 < middle.den
-  middle_den = mid_height_den w.thickness w.bearing w.strength (whole (buckling_length w)) least (omega arith)
-
-  middle_alone : eqb w.support 1 ≡ true → floor (times (reduction w) middle) ≡ resistance w
+  pub middle_alone : eqb w.support 1 ≡ true → floor (times (reduction w) middle) ≡ resistance w
   unfolding resistance exact_resistance unreduced
-  middle_alone intermediate = rw intermediate
+  middle_alone intermediate = rw intermediate refl
 
-  smaller_of_both : eqb w.support 1 ≡ false → min (floor (times (reduction w) middle)) (floor (times (reduction w) end)) ≡ resistance w
+  pub resistance_middle : 1 ≡ w.support → floor (times (reduction w) middle) ≡ resistance w
   unfolding resistance exact_resistance unreduced
-  smaller_of_both further =
-      rw further
-      (sym (floor_times_smaller (reduction w) middle end (omega arith) middle_den
+  resistance_middle alone = rw (← alone) refl
+
+  pub resistance_smaller : 1 ≤ w.thickness → (w.support ≡ 1 → ⊥) → (m : ℕ) → (m ÷ 20) ≈ support_factor_of w →
+      min (floor (times (reduction w) middle)) (floor (times (reduction w) (at_support w.bearing w.strength (m ÷ 20)))) ≡ resistance w
+  unfolding resistance exact_resistance unreduced
+  resistance_smaller least further m value =
+      rw (ne_eqb w.support 1 further, support_same (reduction_fifths w) m w.bearing w.strength (support_factor_of w) (factor_den w) value)
+      (sym (floor_times_smaller (reduction w) middle end (omega arith) (mid_height_den w.thickness w.bearing w.strength (whole (buckling_length w)) least (omega arith))
       (at_support_den w.bearing w.strength (support_factor_of w) (factor_den w))))
-
-  module _ (m middle_is end_is : ℕ) (value : (m ÷ 20) ≈ support_factor_of w) (rounded_middle : middle_is ≡ floor (times (reduction w) middle))
-      (rounded_end : end_is ≡ floor (times (reduction w) (at_support w.bearing w.strength (m ÷ 20)))) where
-    end_rounded : end_is ≡ floor (times (reduction w) end)
-    end_rounded = rounded_end ∙ support_same (reduction_fifths w) m w.bearing w.strength (support_factor_of w) (factor_den w) value
-
-    pub resistance_middle : (eqb w.support 1 || ltb middle_is end_is) ≡ true → middle_is ≡ resistance w
-    resistance_middle chosen =
-        cond_cases {A = Bool} (λ _. middle_is ≡ resistance w) (eqb w.support 1) {x = true} {y = true}
-        (λ alone. rounded_middle ∙ middle_alone alone)
-        (λ further. omega (arith, smaller_of_both further, end_rounded, ltb-true middle_is end_is (rw further at chosen)))
-
-    pub resistance_end : (eqb w.support 1 || ltb middle_is end_is) ≡ false → end_is ≡ resistance w
-    resistance_end chosen =
-        let further = or_left (eqb w.support 1) (ltb middle_is end_is) chosen in
-        omega (arith, smaller_of_both further, end_rounded, ltb-false middle_is end_is (or_right (eqb w.support 1) (ltb middle_is end_is) chosen))
 
 -- Bound: the strength and the bearing alone, without the slenderness.
 
@@ -179,6 +167,8 @@ mid_height_most t a F E least bearing strength =
 pub fifths_most : (w : StoreyWall) → reduction_fifths w ≤ 5
 unfolding reduction_fifths
 fifths_most w = cond_cases (λ (n : ℕ). n ≤ 5) (ltb (w.length * w.thickness) 100000 || eqb w.bonded 1) (λ _. omega arith) (λ _. omega arith)
+
+pub ruleset resistances = (fifths_most, intermediate_support, resistance_middle, resistance_smaller)
 
 module _ (support t a F : ℕ) (m E : Fraction) (least : 1 ≤ t) (positive_m : 0 < m.den) (positive : 0 < E.den) where
   pub unreduced_den : 0 < (unreduced support t a F m E).den

@@ -1,4 +1,4 @@
--- Laws of the spans: the code's choice is the definition's, and how the spans follow L where M is equal.
+-- Laws of the spans: how they follow L where M is equal.
 use Prim.Native.Nat.{ℕ, ◌≤◌, ◌<◌}
 use mathlib.Core.Bool.{true, false, ◌&&◌}
 use mathlib.Core.Logic.{⊎_elim}
@@ -12,8 +12,6 @@ use Rattle.basis.proofs.Choice.{cond_cases, cond_same, and_left, and_right, and_
 use Rattle.basis.proofs.Fraction.{≼_refl, times_mono, times_den}
 use Rattle.storey.specs.Span.{governing_span, span_reduced, support_span}
 use Rattle.storey.specs.Comparison.{ComparableSpans}
-
--- The governing span as the code chooses it.
 
 module _ (L M : ℕ) where
   pub governing_other : (ltb 0 M && ltb M L) ≡ true → M ≡ governing_span L M
@@ -32,16 +30,12 @@ module _ (L M : ℕ) where
   unfolding governing_span
   governing_most = cond_cases (λ (s : ℕ). s ≤ L) (ltb 0 M) (λ _. omega arith) (λ _. omega arith)
 
--- The span that enters m, with the reduction and without.
+-- The span that enters m.
 
 module _ (L M : ℕ) where
   pub span_reduced_lem : span_reduced L M ≡ true → support_span L M ≡ times (85 ÷ 100) (whole (governing_span L M))
   unfolding support_span
   span_reduced_lem is = rw is refl
-
-  pub span_whole : span_reduced L M ≡ false → support_span L M ≡ whole (governing_span L M)
-  unfolding support_span
-  span_whole isnt = rw isnt refl
 
   -- Without another span it is L.
   pub span_one_way : M ≡ 0 → support_span L M ≡ whole L

@@ -1,5 +1,5 @@
 -- Document 01, "Storey wall": the factor r and the buckling length E.
-use Rattle.std.specs.Prelude.{ℕ, ◌+◌, ◌*◌, ◌≤◌, Bool, cond, ◌&&◌, leb, eqb}
+use Rattle.std.specs.Prelude.{ℕ, ◌+◌, ◌*◌, Bool, cond, ◌&&◌, leb, eqb}
 use Rattle.basis.specs.Fraction.{Fraction, ◌÷◌, whole, larger, ceil}
 use Rattle.storey.specs.declared.StoreyWall.{StoreyWall}
 
@@ -36,17 +36,3 @@ exact_length w =
 -- "E is the buckling length in tenths of a mm, the exact value below rounded up."
 unfoldable pub buckling_length : StoreyWall → ℕ
 buckling_length w = ceil (exact_length w)
-
--- What the inner functions are handed of a record in range: their products fit a machine word then.
-pub record CurvedInputs (n c k : ℕ) : Type 0 where
-  pub scale_least : 1 ≤ n
-  pub scale_most : n ≤ 1800
-  pub distance_least : 1 ≤ c
-  pub distance_most : c ≤ 30000
-  pub product_most : k ≤ 400000
-
-pub record LengthInputs (h c k : ℕ) : Type 0 where
-  pub height_most : h ≤ 20000
-  pub distance_least : 1 ≤ c
-  pub distance_most : c ≤ 30000
-  pub product_most : k ≤ 400000

@@ -1,12 +1,11 @@
 -- Document 01, "Results and refusals", for an `S` record: the parts of its check, and the five numbers of every record.
-use Rattle.std.specs.Prelude.{ℕ, Bool, true, not, List, [], ◌∷◌, ◌≡◌, ltb}
+use Rattle.std.specs.Prelude.{ℕ, Bool, true, not, List, [], ◌∷◌, ◌≡◌, ltb, Result, Ok, Err}
 use Rattle.basis.specs.Refusal.{first_or, NoneApplies}
 use Rattle.basis.specs.Result.{refused_with}
 use Rattle.basis.specs.Check.{Parts, result_of}
 use Rattle.basis.specs.declared.CheckResult.{CheckResult}
 use Rattle.storey.specs.declared.StoreyWall.{StoreyWall}
 use Rattle.storey.specs.declared.Assessment.{Assessment}
-use Rattle.storey.specs.declared.Assessment.TheVariants.{Refused, Within}
 use Rattle.storey.specs.Range.{in_range}
 use Rattle.storey.specs.BucklingLength.{buckling_length}
 use Rattle.storey.specs.Resistance.{reduction_fifths, resistance}
@@ -34,13 +33,14 @@ abbrev pub check : StoreyWall → CheckResult
 check w = result_of (parts w)
 
 -- What every check of a storey wall begins with: the refusal up to 11 that applies or, if none does, E, N and the reduction in fifths.
-unfoldable pub assessment : StoreyWall → Assessment
-assessment w = first_or Refused ((2, not (in_range w)) ∷ limits_up_to_11 w) (Within (buckling_length w) (load w) (reduction_fifths w))
+unfoldable pub assessment : StoreyWall → Result Assessment ℕ
+assessment w =
+    first_or Err ((2, not (in_range w)) ∷ limits_up_to_11 w) (Ok (record { buckling = buckling_length w; load = load w; fifths = reduction_fifths w }))
 
 -- What an assessment stands for in a result: its refusal with four zeros, or whatever the check asks next.
-abbrev pub behind : (next : CheckResult) → Assessment → CheckResult
-behind next (Refused n) = refused_with n
-behind next (Within E N fifths) = next
+abbrev pub behind : (next : CheckResult) → Result Assessment ℕ → CheckResult
+behind next (Err n) = refused_with n
+behind next (Ok assessed) = next
 
 -- What a record has that no refusal up to 11 applies to.
 pub record Assessed (w : StoreyWall) (E N fifths : ℕ) : Type 0 where

@@ -1,13 +1,12 @@
 -- Demand 2 for a storey wall, as claims about the definitions; their proofs stand in proofs/Claims.antt, Height.antt, Load.antt and Check.antt. What holds of any
 -- check stands in basis, what holds of both kinds in walls.
-use Rattle.std.specs.Prelude.{ℕ, ◌≤◌, ◌<◌, Bool, true, cond, map, ◌↔◌, ◌≡◌, eqb}
+use Rattle.std.specs.Prelude.{ℕ, ◌≤◌, ◌<◌, Bool, true, cond, map, ◌↔◌, ◌≡◌, eqb, Ok}
 use Rattle.basis.specs.Fraction.{whole, LeastAtOrAbove, LessThanOneBelow}
 use Rattle.basis.specs.Refusal.{first_or, NoneApplies}
 use Rattle.basis.specs.Result.{refused_with, Accepted}
 use Rattle.basis.specs.Check.{reported}
 use Rattle.basis.specs.Load.{rounded_load}
 use Rattle.storey.specs.declared.StoreyWall.{StoreyWall}
-use Rattle.storey.specs.declared.Assessment.TheVariants.{Within}
 use Rattle.storey.specs.Record.{with_calcium_silicate, with_wind}
 use Rattle.storey.specs.Range.{in_range}
 use Rattle.storey.specs.Span.{governing_span, support_span}
@@ -77,4 +76,4 @@ CheckBehindAssessment = (w : StoreyWall) → check w ≡ behind (first_or refuse
 
 -- The numbers of an assessment are E, N and the reduction of a record in range that no refusal up to 11 applies to.
 abbrev pub AssessmentNumbers : Type 0
-AssessmentNumbers = (w : StoreyWall) (E N fifths : ℕ) → assessment w ≡ Within E N fifths → Assessed w E N fifths
+AssessmentNumbers = (w : StoreyWall) (E N fifths : ℕ) → assessment w ≡ Ok (record { buckling = E; load = N; fifths = fifths }) → Assessed w E N fifths

@@ -1,9 +1,8 @@
 -- Document 01, "Storey wall": "Resistance in N/m is the smaller of these two, not below 0, times 4/5 .., then rounded down once".
 -- The buckling length enters as a fraction, so that the same definition serves E and the unrounded length.
-use Rattle.std.specs.Prelude.{ℕ, ◌*◌, ◌≤◌, true, cond, ◌||◌, ◌≡◌, ltb, eqb}
+use Rattle.std.specs.Prelude.{ℕ, ◌*◌, ◌≤◌, cond, ◌||◌, ltb, eqb}
 use Rattle.basis.specs.Fraction.{Fraction, ◌÷◌, whole, ◌≈◌, times, minus, smaller, floor}
 use Rattle.storey.specs.declared.StoreyWall.{StoreyWall}
-use Rattle.storey.specs.Range.{in_range}
 use Rattle.storey.specs.Span.{support_span}
 use Rattle.storey.specs.BucklingLength.{buckling_length}
 
@@ -45,28 +44,7 @@ exact_resistance w E =
 unfoldable pub resistance : StoreyWall → ℕ
 resistance w = floor (exact_resistance w (whole (buckling_length w)))
 
--- What the inner functions are handed of a record in range and hand back: their products fit a machine word then.
-pub record MidHeightInputs (fifths t a F E : ℕ) : Type 0 where
-  pub fifths_most : fifths ≤ 5
-  pub thickness_least : 1 ≤ t
-  pub thickness_most : t ≤ 1000
-  pub bearing_most : a ≤ t
-  pub strength_most : F ≤ 5000
-  pub length_most : E ≤ 270000
-
-pub record SupportInputs (fifths m a F : ℕ) : Type 0 where
-  pub fifths_most : fifths ≤ 5
-  pub factor_most : m ≤ 108000
-  pub bearing_most : a ≤ 1000
-  pub strength_most : F ≤ 5000
-
 -- m in twentieths, since 0.85 of a span is 17 twentieths of it.
 pub record SupportFactor (m : ℕ) (f : Fraction) : Type 0 where
   pub value : (m ÷ 20) ≈ f
   pub most : m ≤ 108000
-
-pub record ResistanceInputs (w : StoreyWall) (E fifths : ℕ) : Type 0 where
-  pub in_range : in_range w ≡ true
-  pub buckling_length : E ≡ buckling_length w
-  pub not_slender : E ≤ 270 * w.thickness
-  pub reduction : fifths ≡ reduction_fifths w

@@ -1,5 +1,5 @@
 -- Document 02, #101, "Two-way floors": the span that stands for L, and what of it enters m.
-use Rattle.std.specs.Prelude.{ℕ, ◌*◌, ◌≤◌, min, Bool, cond, ◌&&◌, leb, ltb}
+use Rattle.std.specs.Prelude.{ℕ, ◌*◌, min, Bool, cond, ◌&&◌, leb, ltb}
 use Rattle.basis.specs.Fraction.{Fraction, ◌÷◌, whole, times}
 
 -- "With M above 0 the shorter of L and M stands for L in refusal 9 and in m."
@@ -14,8 +14,3 @@ span_reduced L M = ltb 0 M && leb M (2 * L) && leb L (2 * M)
 unfoldable pub support_span : (L M : ℕ) → Fraction
 support_span L M =
     cond (span_reduced L M) (times (85 ÷ 100) (whole (governing_span L M))) (whole (governing_span L M))
-
--- What the inner functions are handed of a record in range: their products fit a machine word then.
-pub record SpanInputs (L M : ℕ) : Type 0 where
-  pub span_most : L ≤ 20000
-  pub other_most : M ≤ 20000

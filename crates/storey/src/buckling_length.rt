@@ -1,10 +1,10 @@
 // The factor r and the buckling length E: document 01, "Storey wall".
-ghost use Rattle.std.specs.Prelude.{true, ◌≡◌, ◌+◌, ◌*◌};
+ghost use Rattle.std.specs.Prelude.{◌≡◌, ◌+◌, ◌*◌, ◌≤◌};
 ghost use Rattle.basis.specs.Fraction.{◌÷◌, ceil};
-ghost use Rattle.storey.specs.Range.{in_range};
-ghost use Rattle.storey.specs.BucklingLength.{bearing_suffices, factor, three_sides, four_sides, CurvedInputs, LengthInputs, buckling_length};
+ghost use Rattle.storey.specs.BucklingLength.{bearing_suffices, factor, three_sides, four_sides, buckling_length};
 
 use crate::StoreyWall;
+use crate::in_range::{Holding, WallInRange};
 
 impl StoreyWall {
     // From this thickness on SUFFICIENT_BEARING suffices; below it the bearing must be the whole thickness.
@@ -36,84 +36,114 @@ impl StoreyWall {
     // Two sides: k/2.
     const TWO_SIDES_DIVISOR: u64 = 2;
 
-    fn bearing_suffices(thickness: u64, bearing: u64) -> bool
-        ensures { result ≡ bearing_suffices thickness bearing }
+    #[tactic(auto, unfolding(crate::specs::BucklingLength::bearing_suffices))]
+    fn bearing_suffices(self) -> bool
+        ensures { result ≡ bearing_suffices self.thickness self.bearing }
     {
-        if StoreyWall::PARTIAL_BEARING_THICKNESS <= thickness {
-            return StoreyWall::SUFFICIENT_BEARING <= bearing;
+        if StoreyWall::PARTIAL_BEARING_THICKNESS <= self.thickness {
+            StoreyWall::SUFFICIENT_BEARING <= self.bearing
+        } else {
+            self.bearing == self.thickness
         }
-        bearing == thickness
     }
 
     // r, the factor of the clear height in twentieths.
-    fn factor(thickness: u64, bearing: u64) -> u64
-        ensures { result ≡ factor thickness bearing }
+    #[tactic(auto, unfolding(crate::specs::BucklingLength::factor))]
+    fn factor(self) -> u64
+        ensures { result ≡ factor self.thickness self.bearing }
     {
-        let suffices = StoreyWall::bearing_suffices(thickness, bearing);
-        if suffices & (thickness <= StoreyWall::THIN_FACTOR_THICKNESS) {
-            return StoreyWall::THIN_FACTOR;
+        let by_thickness = match self.thickness {
+            ..=StoreyWall::THIN_FACTOR_THICKNESS => StoreyWall::THIN_FACTOR,
+            ..=StoreyWall::MEDIUM_FACTOR_THICKNESS => StoreyWall::MEDIUM_FACTOR,
+            _ => StoreyWall::WHOLE_FACTOR,
+        };
+        if self.bearing_suffices() {
+            by_thickness
+        } else {
+            StoreyWall::WHOLE_FACTOR
         }
-        if suffices & (thickness <= StoreyWall::MEDIUM_FACTOR_THICKNESS) {
-            return StoreyWall::MEDIUM_FACTOR;
-        }
-        StoreyWall::WHOLE_FACTOR
     }
+}
 
-    // n c² k / (2 n c² + k²) rounded up, with n = `scale`, c = `distance` and k = `product`, the factor times the clear height.
-    fn curved(scale: u64, distance: u64, product: u64) -> u64
-        requires { CurvedInputs scale distance product }
-        ensures { result ≡ ceil ((scale * (distance * distance) * product) ÷ (2 * scale * (distance * distance) + product * product)) }
+// A wall that is held on three or four sides.
+#[derive(Clone, Copy)]
+struct StiffenedWall {
+    // h
+    height: u64,
+    // c
+    distance: u64,
+    // k, the factor times the height
+    product: u64,
+    ghost height_most: { height ≤ 20000 },
+    ghost distance_least: { 1 ≤ distance },
+    ghost distance_most: { distance ≤ 30000 },
+    ghost product_most: { product ≤ 400000 },
+}
+
+impl StiffenedWall {
+    // n c² k / (2 n c² + k²) rounded up, with n = `scale`.
+    #[tactic(auto, using(crate::proofs::BucklingLength::scaled_product_most))]
+    fn curved(self, scale: u64) -> u64
+        requires { scale ≤ 1800 }
+        ensures { result ≡ ceil ((scale * (self.distance * self.distance) * self.product) ÷ (2 * scale * (self.distance * self.distance) + self.product * self.product)) }
     {
-        let square = distance * distance;
+        let square = self.distance * self.distance;
         basis::ceil_div(
-            scale * square * product,
-            2 * scale * square + product * product,
+            scale * square * self.product,
+            2 * scale * square + self.product * self.product,
         )
     }
 
-    // The length of a wall on three sides.
-    fn three_sides(height: u64, distance: u64, product: u64) -> u64
-        requires { LengthInputs height distance product }
-        ensures { result ≡ ceil (three_sides height distance product) }
+    // The length on three sides.
+    #[tactic(auto, using(crate::proofs::BucklingLength::three_sides_rounded))]
+    fn three_sides(self) -> u64
+        ensures { result ≡ ceil (three_sides self.height self.distance self.product) }
     {
-        let curved = StoreyWall::curved(StoreyWall::THREE_SIDES_SCALE, distance, product);
-        let least = StoreyWall::THREE_SIDES_LEAST * height;
-        if curved < least {
-            return least;
-        }
-        curved
+        self.curved(StoreyWall::THREE_SIDES_SCALE)
+            .max(StoreyWall::THREE_SIDES_LEAST * self.height)
     }
 
-    // The length of a wall on four sides.
-    fn four_sides(height: u64, distance: u64, product: u64) -> u64
-        requires { LengthInputs height distance product }
-        ensures { result ≡ ceil (four_sides height distance product) }
+    // The length on four sides.
+    #[tactic(auto, using(basis::proofs::Fraction::ceil_whole), unfolding(crate::specs::BucklingLength::four_sides))]
+    fn four_sides(self) -> u64
+        ensures { result ≡ ceil (four_sides self.height self.distance self.product) }
     {
-        if height <= distance {
-            return StoreyWall::curved(StoreyWall::FOUR_SIDES_SCALE, distance, product);
+        if self.height <= self.distance {
+            self.curved(StoreyWall::FOUR_SIDES_SCALE)
+        } else {
+            StoreyWall::FOUR_SIDES_NARROW * self.distance
         }
-        StoreyWall::FOUR_SIDES_NARROW * distance
     }
+}
 
+impl WallInRange {
     // E, the buckling length in tenths of a mm.
+    #[tactic(auto, using(crate::proofs::Range::bounds, crate::proofs::BucklingLength::lengths), unfolding(crate::specs::BucklingLength::buckling_length, crate::specs::BucklingLength::two_sides))]
     pub(crate) fn buckling_length(self) -> u64
-        requires { in_range self ≡ true }
-        ensures { result ≡ buckling_length self }
+        ensures { result ≡ buckling_length self.wall }
     {
-        let height = self.height;
-        let distance = self.distance;
-        let thickness = self.thickness;
-        let product = StoreyWall::factor(thickness, self.bearing) * height;
-        if (self.held == StoreyWall::THREE_SIDES)
-            & (distance <= StoreyWall::EDGE_THICKNESSES * thickness)
-        {
-            return StoreyWall::three_sides(height, distance, product);
+        let StoreyWall {
+            thickness,
+            height,
+            ..
+        } = self.wall;
+        let product = self.wall.factor() * height;
+        let edge_limit = StoreyWall::EDGE_THICKNESSES * thickness;
+        let spacing_limit = StoreyWall::SPACING_THICKNESSES * thickness;
+        match self.holding() {
+            Holding::ThreeSides(distance) if distance <= edge_limit => StiffenedWall {
+                height,
+                distance,
+                product,
+            }
+            .three_sides(),
+            Holding::FourSides(distance) if distance <= spacing_limit => StiffenedWall {
+                height,
+                distance,
+                product,
+            }
+            .four_sides(),
+            _ => basis::ceil_div(product, StoreyWall::TWO_SIDES_DIVISOR),
         }
-        if (self.held == StoreyWall::FOUR_SIDES)
-            & (distance <= StoreyWall::SPACING_THICKNESSES * thickness)
-        {
-            return StoreyWall::four_sides(height, distance, product);
-        }
-        basis::ceil_div(product, StoreyWall::TWO_SIDES_DIVISOR)
     }
 }

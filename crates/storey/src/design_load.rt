@@ -1,9 +1,9 @@
 // Load: document 01, "Storey wall", and document 02, #103.
-ghost use Rattle.std.specs.Prelude.{true, ◌≡◌};
-ghost use Rattle.storey.specs.Range.{in_range};
+ghost use Rattle.std.specs.Prelude.{◌≡◌};
 ghost use Rattle.storey.specs.Load.{load};
 
 use crate::StoreyWall;
+use crate::in_range::WallInRange;
 
 impl StoreyWall {
     // 1.35G + 1.5Q, in hundredths.
@@ -14,22 +14,28 @@ impl StoreyWall {
     const SIMPLIFIED_FACTOR: u64 = 140;
 
     const SIMPLIFIED_GREATEST_FLOOR_LOAD: u64 = 3000;
+}
 
+impl WallInRange {
     // N, the design load in N/m.
+    #[tactic(auto, using(crate::proofs::Range::bounds, crate::proofs::Load::load_up_to, crate::proofs::Load::load_above), unfolding(crate::specs::Load::load, crate::specs::Load::exact_load))]
     pub(crate) fn load(self) -> u64
-        requires { in_range self ≡ true }
-        ensures { result ≡ load self }
+        ensures { result ≡ load self.wall }
     {
-        let dead = self.dead;
-        let imposed = self.imposed;
+        let StoreyWall {
+            dead,
+            imposed,
+            floorload,
+            ..
+        } = self.wall;
         let general = StoreyWall::DEAD_FACTOR * dead + StoreyWall::IMPOSED_FACTOR * imposed;
         let simplified = StoreyWall::SIMPLIFIED_FACTOR * (dead + imposed);
-        let mut exact = general;
-        if self.floorload <= StoreyWall::SIMPLIFIED_GREATEST_FLOOR_LOAD {
-            if simplified <= general {
-                exact = simplified;
-            }
-        }
+        let smaller = simplified.min(general);
+        let exact = if floorload <= StoreyWall::SIMPLIFIED_GREATEST_FLOOR_LOAD {
+            smaller
+        } else {
+            general
+        };
         basis::rounded_load(exact)
     }
 }

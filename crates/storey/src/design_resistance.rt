@@ -1,18 +1,13 @@
 // Resistance: document 01, "Storey wall", with the span of document 02, #101.
-ghost use Rattle.std.specs.Prelude.{true, ◌≡◌, ◌-◌};
+ghost use Rattle.std.specs.Prelude.{◌≡◌, ◌*◌, ◌≤◌};
 ghost use Rattle.basis.specs.Fraction.{◌÷◌, whole, floor, times};
-ghost use Rattle.storey.specs.Range.{in_range};
-ghost use Rattle.storey.specs.Span.{support_span, SpanInputs};
-ghost use Rattle.storey.specs.Resistance.{at_mid_height, support_factor, at_support, reduction_fifths, resistance, MidHeightInputs, SupportInputs, SupportFactor, ResistanceInputs};
+ghost use Rattle.storey.specs.BucklingLength.{buckling_length};
+ghost use Rattle.storey.specs.Resistance.{at_mid_height, support_factor_of, at_support, reduction_fifths, resistance, SupportFactor};
 
 use crate::StoreyWall;
+use crate::in_range::{Support, WallInRange};
 
 impl StoreyWall {
-    const INTERMEDIATE_SUPPORT: u64 = 1;
-
-    const UNDER_FLOOR: u64 = 2;
-
-    const UNDER_ROOF: u64 = 3;
     // m: the smaller of FULL_SUPPORT and SPAN_SUPPORT less the span under a floor, ROOF_SUPPORT under a roof, else
     // FULL_SUPPORT. In twentieths, as the span is that enters it.
     const FULL_SUPPORT: u64 = 5400 * StoreyWall::TWENTIETHS;
@@ -36,82 +31,105 @@ impl StoreyWall {
     const REDUCED_FIFTHS: u64 = 4;
 
     const WHOLE_FIFTHS: u64 = 5;
+}
 
-    // The reduction, 4/5 or 5/5, as its number of fifths.
-    pub(crate) fn reduction_fifths(self) -> u64
-        requires { in_range self ≡ true }
-        ensures { result ≡ reduction_fifths self }
-    {
-        if (self.length * self.thickness < StoreyWall::REDUCED_AREA) | (self.bonded == 1) {
-            return StoreyWall::REDUCED_FIFTHS;
-        }
-        StoreyWall::WHOLE_FIFTHS
-    }
+// What both resistances are worked out from.
+#[derive(Clone, Copy)]
+struct CrossSection {
+    // t
+    thickness: u64,
+    // a
+    bearing: u64,
+    // F
+    strength: u64,
+    // The reduction
+    fifths: u64,
+    ghost thickness_least: { 1 ≤ thickness },
+    ghost thickness_most: { thickness ≤ 1000 },
+    ghost bearing_most: { bearing ≤ thickness },
+    ghost strength_most: { strength ≤ 5000 },
+    ghost fifths_most: { fifths ≤ 5 },
+}
 
-    // What a span in twentieths leaves of SPAN_SUPPORT, not below 0.
-    fn span_support(twentieths: u64) -> u64
-        ensures { result ≡ 192000 - twentieths }
-    {
-        if StoreyWall::SPAN_SUPPORT < twentieths {
-            return 0;
-        }
-        StoreyWall::SPAN_SUPPORT - twentieths
-    }
-
-    // m in twentieths, for supports 2 to 4.
-    fn support_factor(support: u64, span: u64, other: u64) -> u64
-        requires { SpanInputs span other }
-        ensures { SupportFactor result (support_factor support (support_span span other)) }
-    {
-        let left = StoreyWall::span_support(StoreyWall::support_span(span, other));
-        if (support == StoreyWall::UNDER_FLOOR) & (left < StoreyWall::FULL_SUPPORT) {
-            return left;
-        }
-        if support == StoreyWall::UNDER_ROOF {
-            return StoreyWall::ROOF_SUPPORT;
-        }
-        StoreyWall::FULL_SUPPORT
-    }
-
+impl CrossSection {
     // The resistance at mid-height, reduced and rounded down, with E the buckling length.
-    fn at_mid_height(fifths: u64, thickness: u64, bearing: u64, strength: u64, buckling: u64) -> u64
-        requires { MidHeightInputs fifths thickness bearing strength buckling }
-        ensures { result ≡ floor (times (fifths ÷ 5) (at_mid_height thickness bearing strength (whole buckling))) }
+    #[tactic(auto, using(crate::proofs::Resistance::mid_height_quotient))]
+    fn at_mid_height(self, buckling: u64) -> u64
+        requires { buckling ≤ 270000 }
+        ensures { result ≡ floor (times (self.fifths ÷ 5) (at_mid_height self.thickness self.bearing self.strength (whole buckling))) }
     {
-        let bearing_part = StoreyWall::BEARING_FACTOR * bearing * thickness;
+        let bearing_part = StoreyWall::BEARING_FACTOR * self.bearing * self.thickness;
         let slenderness_part = StoreyWall::SLENDERNESS_FACTOR * (buckling * buckling);
-        if bearing_part <= slenderness_part {
-            return 0;
-        }
-        let strength_part = fifths * (StoreyWall::STRENGTH_FACTOR * strength);
-        strength_part * (bearing_part - slenderness_part)
-            / (StoreyWall::WHOLE_FIFTHS * (StoreyWall::MID_HEIGHT_DIVISOR * thickness))
+        let strength_part = self.fifths * (StoreyWall::STRENGTH_FACTOR * self.strength);
+        strength_part * bearing_part.saturating_sub(slenderness_part)
+            / (StoreyWall::WHOLE_FIFTHS * (StoreyWall::MID_HEIGHT_DIVISOR * self.thickness))
     }
 
     // The resistance at the support, reduced and rounded down, with m in twentieths.
-    fn at_support(fifths: u64, m: u64, bearing: u64, strength: u64) -> u64
-        requires { SupportInputs fifths m bearing strength }
-        ensures { result ≡ floor (times (fifths ÷ 5) (at_support bearing strength (m ÷ 20))) }
+    #[tactic(auto, using(crate::proofs::Resistance::support_product_most, crate::proofs::Resistance::support_quotient))]
+    fn at_support(self, m: u64) -> u64
+        requires { m ≤ 108000 }
+        ensures { result ≡ floor (times (self.fifths ÷ 5) (at_support self.bearing self.strength (m ÷ 20))) }
     {
-        let strength_part = fifths * (StoreyWall::STRENGTH_FACTOR * strength * bearing);
+        let strength_part = self.fifths
+            * (StoreyWall::STRENGTH_FACTOR * self.strength * self.bearing);
         strength_part * m / (StoreyWall::WHOLE_FIFTHS * StoreyWall::SUPPORT_DIVISOR)
+    }
+}
+
+impl WallInRange {
+    // The reduction, 4/5 or 5/5, as its number of fifths.
+    #[tactic(auto, using(crate::proofs::Range::bounds), unfolding(crate::specs::Resistance::reduction_fifths))]
+    pub(crate) fn reduction_fifths(self) -> u64
+        ensures { result ≡ reduction_fifths self.wall }
+    {
+        let area = self.wall.length * self.wall.thickness;
+        if (area < StoreyWall::REDUCED_AREA) | (self.wall.bonded == 1) {
+            StoreyWall::REDUCED_FIFTHS
+        } else {
+            StoreyWall::WHOLE_FIFTHS
+        }
+    }
+
+    // m in twentieths, for supports 2 to 4.
+    #[tactic(auto, using(crate::proofs::Span::support_span_den, crate::proofs::Resistance::under_floor, crate::proofs::Resistance::other_support), unfolding(crate::specs::Resistance::support_factor))]
+    fn support_factor(self) -> u64
+        ensures { SupportFactor result (support_factor_of self.wall) }
+    {
+        let left = StoreyWall::SPAN_SUPPORT.saturating_sub(self.slab().support_span());
+        match self.support() {
+            Support::UnderFloor => left.min(StoreyWall::FULL_SUPPORT),
+            Support::UnderRoof => StoreyWall::ROOF_SUPPORT,
+            Support::Intermediate | Support::CentringStrip => StoreyWall::FULL_SUPPORT,
+        }
     }
 
     // The resistance in N/m, with the buckling length in tenths of a mm and the reduction in fifths.
+    #[tactic(auto, using(crate::proofs::Range::bounds, crate::proofs::Resistance::resistances))]
     pub(crate) fn resistance(self, buckling: u64, fifths: u64) -> u64
-        requires { ResistanceInputs self buckling fifths }
-        ensures { result ≡ resistance self }
+        requires buckling_length { buckling ≡ buckling_length self.wall }
+        requires not_slender { buckling ≤ 270 * self.wall.thickness }
+        requires reduction { fifths ≡ reduction_fifths self.wall }
+        ensures { result ≡ resistance self.wall }
     {
-        let thickness = self.thickness;
-        let support = self.support;
-        let bearing = self.bearing;
-        let strength = self.strength;
-        let m = StoreyWall::support_factor(support, self.span, self.otherspan);
-        let middle = StoreyWall::at_mid_height(fifths, thickness, bearing, strength, buckling);
-        let end = StoreyWall::at_support(fifths, m, bearing, strength);
-        if (support == StoreyWall::INTERMEDIATE_SUPPORT) | (middle < end) {
-            return middle;
+        let StoreyWall {
+            thickness,
+            bearing,
+            strength,
+            ..
+        } = self.wall;
+        let section = CrossSection {
+            thickness,
+            bearing,
+            strength,
+            fifths,
+        };
+        let middle = section.at_mid_height(buckling);
+        let end = section.at_support(self.support_factor());
+        let smaller = middle.min(end);
+        match self.support() {
+            Support::Intermediate => middle,
+            _ => smaller,
         }
-        end
     }
 }

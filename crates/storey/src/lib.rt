@@ -6,6 +6,8 @@ mod buckling_length;
 mod design_load;
 mod design_resistance;
 mod heights;
+mod in_range;
+mod numbers;
 mod ranges;
 mod refusals;
 mod result;
@@ -65,18 +67,13 @@ impl StoreyWall {
     pub const FOUR_SIDES: u64 = 4;
 }
 
-// What every check of a storey wall begins with.
+// What every check of a storey wall asks of a record that no refusal up to 11 applies to.
 #[derive(Clone, Copy)]
-pub enum Assessment {
-    // The first refusal up to 11 that applies.
-    Refused(u64),
-    // None applies.
-    Within {
-        // E, the buckling length in tenths of a mm
-        buckling: u64,
-        // N, the design load in N/m
-        load: u64,
-        // The reduction of the resistance, in fifths
-        fifths: u64,
-    },
+pub struct Assessment {
+    // E, the buckling length in tenths of a mm
+    pub buckling: u64,
+    // N, the design load in N/m
+    pub load: u64,
+    // The reduction of the resistance, in fifths
+    pub fifths: u64,
 }

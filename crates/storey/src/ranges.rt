@@ -1,8 +1,11 @@
 // Ranges: document 01, "The two lines", and document 02, #101 and #102.
-ghost use Rattle.std.specs.Prelude.{◌≡◌};
+ghost use Rattle.std.specs.Prelude.{◌≡◌, false, MatchResult};
+ghost use Rattle.basis.specs.declared.Refusal.TheVariants.{OutOfRange};
 ghost use Rattle.storey.specs.Range.{in_range};
 
 use crate::StoreyWall;
+use crate::in_range::WallInRange;
+use basis::Refusal;
 
 impl StoreyWall {
     // The greatest number of each range, and the least where it is not 0 or 1.
@@ -48,29 +51,40 @@ impl StoreyWall {
     pub fn in_range(self) -> bool
         ensures { result ≡ in_range self }
     {
-        ((1 <= self.usage) & (self.usage <= StoreyWall::RANGE_GREATEST_USAGE))
-            & ((1 <= self.thickness) & (self.thickness <= StoreyWall::RANGE_GREATEST_THICKNESS))
-            & ((1 <= self.height) & (self.height <= StoreyWall::RANGE_GREATEST_HEIGHT))
-            & ((1 <= self.length) & (self.length <= StoreyWall::RANGE_GREATEST_LENGTH))
-            & ((StoreyWall::RANGE_LEAST_HELD <= self.held)
-                & (self.held <= StoreyWall::RANGE_GREATEST_HELD))
+        (1..=StoreyWall::RANGE_GREATEST_USAGE).contains(&self.usage)
+            & (1..=StoreyWall::RANGE_GREATEST_THICKNESS).contains(&self.thickness)
+            & (1..=StoreyWall::RANGE_GREATEST_HEIGHT).contains(&self.height)
+            & (1..=StoreyWall::RANGE_GREATEST_LENGTH).contains(&self.length)
+            & (StoreyWall::RANGE_LEAST_HELD..=StoreyWall::RANGE_GREATEST_HELD).contains(&self.held)
             & (((self.held == StoreyWall::TWO_SIDES) & (self.distance == 0))
                 | ((self.held != StoreyWall::TWO_SIDES)
-                    & ((1 <= self.distance)
-                        & (self.distance <= StoreyWall::RANGE_GREATEST_DISTANCE))))
-            & ((1 <= self.support) & (self.support <= StoreyWall::RANGE_GREATEST_SUPPORT))
-            & ((1 <= self.span) & (self.span <= StoreyWall::RANGE_GREATEST_SPAN))
-            & ((1 <= self.bearing) & (self.bearing <= self.thickness))
-            & ((1 <= self.strength) & (self.strength <= StoreyWall::RANGE_GREATEST_STRENGTH))
-            & ((0 <= self.bonded) & (self.bonded <= StoreyWall::RANGE_GREATEST_BONDED))
-            & ((1 <= self.dead) & (self.dead <= StoreyWall::RANGE_GREATEST_DEAD))
-            & ((0 <= self.imposed) & (self.imposed <= StoreyWall::RANGE_GREATEST_IMPOSED))
-            & ((0 <= self.floorload) & (self.floorload <= StoreyWall::RANGE_GREATEST_FLOOR_LOAD))
-            & ((1 <= self.building) & (self.building <= StoreyWall::RANGE_GREATEST_BUILDING))
-            & ((1 <= self.storeys) & (self.storeys <= StoreyWall::RANGE_GREATEST_STOREYS))
-            & ((0 <= self.otherspan) & (self.otherspan <= StoreyWall::RANGE_GREATEST_OTHER_SPAN))
-            & ((0 <= self.calciumsilicate)
-                & (self.calciumsilicate <= StoreyWall::RANGE_GREATEST_CALCIUM_SILICATE))
-            & ((0 <= self.wind) & (self.wind <= StoreyWall::RANGE_GREATEST_WIND))
+                    & (1..=StoreyWall::RANGE_GREATEST_DISTANCE).contains(&self.distance)))
+            & (1..=StoreyWall::RANGE_GREATEST_SUPPORT).contains(&self.support)
+            & (1..=StoreyWall::RANGE_GREATEST_SPAN).contains(&self.span)
+            & (1..=self.thickness).contains(&self.bearing)
+            & (1..=StoreyWall::RANGE_GREATEST_STRENGTH).contains(&self.strength)
+            & (0..=StoreyWall::RANGE_GREATEST_BONDED).contains(&self.bonded)
+            & (1..=StoreyWall::RANGE_GREATEST_DEAD).contains(&self.dead)
+            & (0..=StoreyWall::RANGE_GREATEST_IMPOSED).contains(&self.imposed)
+            & (0..=StoreyWall::RANGE_GREATEST_FLOOR_LOAD).contains(&self.floorload)
+            & (1..=StoreyWall::RANGE_GREATEST_BUILDING).contains(&self.building)
+            & (1..=StoreyWall::RANGE_GREATEST_STOREYS).contains(&self.storeys)
+            & (0..=StoreyWall::RANGE_GREATEST_OTHER_SPAN).contains(&self.otherspan)
+            & (0..=StoreyWall::RANGE_GREATEST_CALCIUM_SILICATE).contains(&self.calciumsilicate)
+            & (0..=StoreyWall::RANGE_GREATEST_WIND).contains(&self.wind)
+    }
+}
+
+impl TryFrom<StoreyWall> for WallInRange {
+    type Error = Refusal;
+
+    ghost try_from_gives = { λ wall given. MatchResult given (λ found. found.wall ≡ wall) (λ refusal. (refusal ≡ OutOfRange) × (in_range wall ≡ false)) };
+
+    fn try_from(wall: StoreyWall) -> Result<WallInRange, Refusal> {
+        if wall.in_range() {
+            Ok(WallInRange { wall })
+        } else {
+            Err(Refusal::OutOfRange)
+        }
     }
 }

@@ -1,9 +1,10 @@
 // Spans of a slab that spans both ways: document 02, #101.
-ghost use Rattle.std.specs.Prelude.{◌≡◌};
+ghost use Rattle.std.specs.Prelude.{◌≡◌, ◌≤◌};
 ghost use Rattle.basis.specs.Fraction.{◌÷◌, ◌≈◌};
-ghost use Rattle.storey.specs.Span.{governing_span, support_span, SpanInputs};
+ghost use Rattle.storey.specs.Span.{governing_span, support_span};
 
 use crate::StoreyWall;
+use crate::in_range::WallInRange;
 
 impl StoreyWall {
     // The reduction: neither span is more than SPAN_RATIO times the other.
@@ -12,29 +13,58 @@ impl StoreyWall {
     const REDUCED_TWENTIETHS: u64 = 17;
 
     pub(crate) const TWENTIETHS: u64 = 20;
+}
 
+// The slab on a wall.
+#[derive(Clone, Copy)]
+pub(crate) struct Slab {
+    // L
+    span: u64,
+    // M, 0 for a one-way slab
+    other: u64,
+    ghost span_most: { span ≤ 20000 },
+    ghost other_most: { other ≤ 20000 },
+}
+
+impl Slab {
     // The span that stands for L: the shorter one, where the slab has another.
-    pub(crate) fn governing_span(span: u64, other: u64) -> u64
-        ensures { result ≡ governing_span span other }
+    #[tactic(auto, unfolding(crate::specs::Span::governing_span))]
+    pub(crate) fn governing_span(self) -> u64
+        ensures { result ≡ governing_span self.span self.other }
     {
-        if (0 < other) & (other < span) {
-            return other;
+        if 0 < self.other {
+            self.span.min(self.other)
+        } else {
+            self.span
         }
-        span
     }
 
     // The span that enters m, in twentieths of a mm.
-    pub(crate) fn support_span(span: u64, other: u64) -> u64
-        requires { SpanInputs span other }
-        ensures { (result ÷ 20) ≈ support_span span other }
+    #[tactic(auto, using(crate::proofs::Span::governing_most), unfolding(crate::specs::Span::support_span, crate::specs::Span::span_reduced, basis::specs::Fraction::times))]
+    pub(crate) fn support_span(self) -> u64
+        ensures { (result ÷ 20) ≈ support_span self.span self.other }
     {
-        let governing = StoreyWall::governing_span(span, other);
-        if (0 < other)
-            & (other <= StoreyWall::SPAN_RATIO * span)
-            & (span <= StoreyWall::SPAN_RATIO * other)
-        {
-            return StoreyWall::REDUCED_TWENTIETHS * governing;
+        let reduced = (0 < self.other)
+            & (self.other <= StoreyWall::SPAN_RATIO * self.span)
+            & (self.span <= StoreyWall::SPAN_RATIO * self.other);
+        let governing = self.governing_span();
+        if reduced {
+            StoreyWall::REDUCED_TWENTIETHS * governing
+        } else {
+            StoreyWall::TWENTIETHS * governing
         }
-        StoreyWall::TWENTIETHS * governing
+    }
+}
+
+impl WallInRange {
+    #[tactic(auto, using(crate::proofs::Range::bounds))]
+    pub(crate) fn slab(self) -> Slab
+        ensures span { result.span ≡ self.wall.span }
+        ensures other { result.other ≡ self.wall.otherspan }
+    {
+        Slab {
+            span: self.wall.span,
+            other: self.wall.otherspan,
+        }
     }
 }

@@ -7,6 +7,8 @@ use mathlib.Core.List.{[], ◌∷◌, ◌++◌}
 use mathlib.Core.Path.{◌≡◌, sym, ap, ◌∙◌}
 use lib.ListN.{length, length-append}
 use borrow.Author.Tests.{lt-ltb, le-ltb}
+use Rattle.std.specs.Fmt.{decimal as printed}
+use Rattle.std.proofs.lemmas.Fmt.{decimal_by_steps}
 use Rattle.text.specs.Decimal.{decimal, decimal_within}
 
 decimal_within_digit : (k n : ℕ) → n < 10 → decimal_within (suc k) n ≡ (48 + n) ∷ []
@@ -65,3 +67,7 @@ decimal_length_bound (suc k) n h =
 
 pub decimal_length_u64 : (n : ℕ) → n < 2 ^ 64 → length (decimal n) ≤ 20
 decimal_length_u64 n h = decimal_length_bound 19 n (omega arith)
+
+-- ── as the library prints it ──
+pub decimal_printed : (n : ℕ) → n < 2 ^ 64 → printed n ≡ decimal n
+decimal_printed = decimal_by_steps (λ n text. text ≡ decimal n) (λ n one. sym (decimal_digit n one)) (λ n tenth more e. rw (e, decimal_more n more))

@@ -1,16 +1,19 @@
 -- Laws of where lines end: of `ended`, `line_length` and `lines_of`, and of the search for the end of a line.
-use Prim.Native.Nat.{ℕ, ◌+◌, ◌≤◌, ◌<◌}
+use Prim.Native.Nat.{ℕ, zero, suc, ◌+◌, ◌≤◌, ◌<◌}
 use native.Mathlib.Decide.{ℕ_discrete}
 use native.Mathlib.Nat.{add-zero, add_assoc}
 use native.Mathlib.Numerals.{add-one}
 use native.Mathlib.Omega.{arith}
-use mathlib.Core.Bool.{Bool, true, false, false≢true, ◌||◌, or_assoc, or-true, or-false}
+use mathlib.Core.Bool.{Bool, true, false, false≢true, ◌||◌, or_assoc, or-true}
 use mathlib.Core.List.{List, [], ◌∷◌, ◌++◌, append_assoc, append-nil}
 use mathlib.Core.Path.{◌≡◌, refl, sym, ap, ◌∙◌}
 use lib.Dec.{ltb}
-use lib.ListN.{length, take, drop, get_or, length-append, length-drop, take-append-drop, drop_of_length-le}
-use lib.Seq.{take-append-add, take-append_seam, take-add, drop-append-add, drop-cons, drop-drop, length-take-le}
-use borrow.Author.Tests.{eqb-true, eq-eqb, ne_eqb, lt-ltb, le-ltb}
+use lib.ListN.{length, take, drop, length-append, length-drop, drop_of_length-le}
+use lib.Seq.{drop-length, take-append-add, take-append_seam, drop-append-add, drop-cons}
+use borrow.Author.Tests.{eq-eqb, ne_eqb, lt-ltb, le-ltb}
+use Rattle.std.proofs.Common.{Option, None, Some}
+use Rattle.std.specs.Option.{unwrap_or}
+use Rattle.memchr.specs.Find.{IsFirstByte, Nowhere, Passes, is_byte}
 use Rattle.text.specs.LineEnd.{ended, line_length, in_front, lines_of}
 
 pub ended_append : (a b : List ℕ) → ended (a ++ b) ≡ (ended a || ended b)
@@ -131,60 +134,24 @@ unended_within l from all =
     ended_cases (ended (drop from l) ≡ false) (drop from l)
     (λ e. absurd (omega (arith, line_length_ended (drop from l) e, length-drop from l))) (λ e. e)
 
--- It ends at once behind the last byte and at byte 10.
-pub end_behind : (l : List ℕ) (at : ℕ) → length l ≤ at → at ≡ at + line_length (drop at l)
+-- It ends at once where no byte is left.
+pub end_behind : (l : List ℕ) (from : ℕ) → length l ≤ from → from ≡ from + line_length (drop from l)
 unfolding line_length
-end_behind l at all = omega (arith, ap line_length (drop_of_length-le l all))
+end_behind l from all = omega (arith, ap line_length (drop_of_length-le l all))
 
-pub end_here : (l : List ℕ) (at : ℕ) → at < length l → get_or l at 0 ≡ 10 → at ≡ at + line_length (drop at l)
+-- Bytes that are not byte 10 are passed.
+line_length_passed : (l : List ℕ) (n : ℕ) → n ≤ length l → Nowhere (Passes (is_byte 10) l) 0 n → line_length l ≡ n + line_length (drop n l)
 unfolding line_length
-end_here l at within is = rw (drop-cons l at 0 within, is) (omega arith)
+line_length_passed l zero within none = omega arith
+line_length_passed [] (suc n) within none = elim within [ ]
+line_length_passed (byte ∷ l) (suc n) within none =
+    rw (ne_eqb byte 10 (λ is. none 0 (omega arith) (omega arith) (eq-eqb byte 10 is)))
+    (omega (arith, line_length_passed l n (omega arith) (λ k low high is. none (suc k) (omega arith) (omega arith) is)))
 
--- From byte `from` up to byte `at` there is no byte 10.
-pub record Passed (l : List ℕ) (from at : ℕ) : Type 0 where
-  pub within : at ≤ length l
-  pub end : at + line_length (drop at l) ≡ from + line_length (drop from l)
-
-pub passed_more : {l : List ℕ} {from at : ℕ} (n : ℕ) → Passed l from at → at + n ≤ length l → ended (take n (drop at l)) ≡ false → Passed l from (at + n)
-passed_more {l} {from} {at} n p within e =
-    let rest = drop at l in
-    let passed : line_length rest ≡ length (take n rest) + line_length (drop n rest) =
-    ap line_length (sym (take-append-drop n rest)) ∙ line_length_append (take n rest) (drop n rest) e in
-    let count : length (take n rest) ≡ n = length-take-le n rest (rw length-drop (omega arith)) in
-    let there : drop n rest ≡ drop (at + n) l = drop-drop n at l in
-    record { within = within; end = omega (arith, p.end, passed, count, ap line_length there) }
-
-pub passed_byte : {l : List ℕ} {from at : ℕ} → Passed l from at → at < length l → (get_or l at 0 ≡ 10 → ⊥) → Passed l from (at + 1)
-unfolding ended
-passed_byte {l} {from} {at} p within isnt =
-    passed_more 1 p (omega arith) (rw (drop-cons l at 0 within, ne_eqb (get_or l at 0) 10 isnt))
-
--- From byte `from` up to byte `at` there is no byte 10, and the next `width` bytes have one.
-pub record Found (l : List ℕ) (from at width : ℕ) : Type 0 where
-  pub passed : Passed l from at
-  pub fits : at + width ≤ length l
-  pub some : ended (take width (drop at l)) ≡ true
-
--- A test of the first half leaves half as many bytes: where the first half has no byte 10, the second half has one.
-module _ {l : List ℕ} {from at : ℕ} (width : ℕ) (f : Found l from at (width + width)) where
-  pub found_second : ended (take width (drop at l)) ≡ false → Found l from (at + width) width
-  found_second none =
-      let first = take width (drop at l) in
-      let second = take width (drop width (drop at l)) in
-      let either : (ended first || ended second) ≡ true = sym (ap ended (take-add width width (drop at l)) ∙ ended_append first second) ∙ f.some in
-      let in_second : ended second ≡ true = rw none at either in
-      record {
-        passed = passed_more width f.passed (omega (arith, f.fits)) none;
-        fits = omega (arith, f.fits);
-        some = rw (drop-drop width at l) at in_second;
-      }
-
-  pub found_first : ended (take width (drop at l)) ≡ true → Found l from at width
-  found_first some = record { passed = f.passed; fits = omega (arith, f.fits); some = some }
-
--- Where a single byte is left, it is byte 10.
-pub found_alone : {l : List ℕ} {from at : ℕ} → Found l from at 1 → at ≡ from + line_length (drop from l)
-unfolding ended
-found_alone {l} {from} {at} f =
-    let within : at < length l = omega (arith, f.fits) in
-    end_here l at within (eqb-true (get_or l at 0) 10 (rw (drop-cons l at 0 within, or-false) at f.some)) ∙ f.passed.end
+-- A line is as long as the place of the first byte 10, or as all bytes where there is none.
+pub line_length_first : (l : List ℕ) (place : Option ℕ) → IsFirstByte (is_byte 10) l place → unwrap_or place (length l) ≡ line_length l
+unfolding line_length
+line_length_first l None none = sym (line_length_passed l (length l) (omega arith) none ∙ omega (arith, ap line_length (drop-length l)))
+line_length_first l (Some place) first =
+    let within : place < length l = first.0.high in
+    sym (line_length_passed l place (omega arith) first.0.before ∙ rw (drop-cons l place 0 within, first.1) (omega arith))

@@ -1,4 +1,5 @@
 -- Demands 1, 2 and 3 and #104 for the public entries: each by citing what was proved below.
+use Rattle.std.proofs.Common.{Option, Some, None}
 use Prim.Native.Nat.{ℕ, ◌≤◌, ◌^◌}
 use mathlib.Core.Bool.{Bool, true, false}
 use mathlib.Core.List.{List, ◌++◌}
@@ -18,8 +19,6 @@ use Rattle.walls.specs.declared.Wall.TheVariants.{Storey, Cellar}
 use Rattle.walls.specs.Check.{numbers_of, parts, in_range, check}
 use Rattle.walls.proofs.Claims.{numbers_reported, accepted_within_limits, never_refusal_1, numbers_are_small}
 use Rattle.walls.proofs.Comparison.{storey_comparison, cellar_comparison}
-use Rattle.line.specs.declared.Reading.{Reading}
-use Rattle.line.specs.declared.Reading.TheVariants.{Read, Malformed}
 use Rattle.line.specs.Grammar.{line_of}
 use Rattle.line.specs.Reading.{read_line, reading_result}
 use Rattle.line.proofs.Claims.{reading_sound, reading_complete, malformed_exactly}
@@ -62,9 +61,9 @@ pub line_of_record : LineOfRecord
 unfolding line_result
 line_of_record wall nine = ap (reading_result check) (reading_complete wall nine)
 
-only_malformed : (r : Reading) → reading_result check r ≡ refused_with 1 → r ≡ Malformed
-only_malformed (Read w) one = absurd (never_refusal_1 w (ap (λ (x : CheckResult). x.refusal) one))
-only_malformed Malformed one = refl
+only_malformed : (r : Option Wall) → reading_result check r ≡ refused_with 1 → r ≡ None
+only_malformed (Some w) one = absurd (never_refusal_1 w (ap (λ (x : CheckResult). x.refusal) one))
+only_malformed None one = refl
 
 pub not_a_line : NotALine
 unfolding line_result
@@ -77,11 +76,11 @@ pub no_result_differs : NoResultDiffers
 unfolding counted_result line_result
 no_result_differs before others records line = let same = by_reading (read_line line) refl in (same, same)
   where
-    by_reading : (r : Reading) → read_line line ≡ r → reading_result check r ≡ before line
-    by_reading (Read w) e =
+    by_reading : (r : Option Wall) → read_line line ≡ r → reading_result check r ≡ before line
+    by_reading (Some w) e =
         let sound = reading_sound line w e in
         sym (records w sound.1) ∙ ap before (sym sound.0)
-    by_reading Malformed e = sym ((others line).1 ((malformed_exactly line).0 e))
+    by_reading None e = sym ((others line).1 ((malformed_exactly line).0 e))
 
 pub line_taken_exactly : LineTakenExactly
 unfolding counted_result

@@ -1,4 +1,6 @@
 -- Laws of the entries: what is made of a reading; every result is bounded, so that its text fits 64 bytes.
+use Rattle.std.proofs.Common.{Option, Some, None}
+use Rattle.walls.specs.declared.Wall.{Wall}
 use Prim.Native.Nat.{ℕ, ◌≤◌}
 use mathlib.Core.List.{List}
 use mathlib.Core.Path.{◌≡◌}
@@ -10,8 +12,6 @@ use Rattle.basis.proofs.Result.{refused_below}
 use Rattle.walls.specs.declared.Wall.TheVariants.{Storey}
 use Rattle.walls.specs.Check.{check}
 use Rattle.walls.proofs.Claims.{result_is_bounded}
-use Rattle.line.specs.declared.Reading.{Reading}
-use Rattle.line.specs.declared.Reading.TheVariants.{Read, Malformed}
 use Rattle.line.specs.declared.CountedReading.{CountedReading}
 use Rattle.line.specs.Reading.{read_line, reading_result, counted_reading}
 use Rattle.worksheet.specs.declared.Row.{Row}
@@ -31,9 +31,9 @@ counted_result_lem line c r read checked = rw (checked, read)
 
 -- Every number of every result is below 10^9.
 
-reading_below : (r : Reading) → Below 1000000000 (reading_result check r)
-reading_below (Read w) = result_is_bounded w
-reading_below Malformed = refused_below 1000000000 1 (omega arith)
+reading_below : (r : Option Wall) → Below 1000000000 (reading_result check r)
+reading_below (Some w) = result_is_bounded w
+reading_below None = refused_below 1000000000 1 (omega arith)
 
 pub line_below : (line : List ℕ) → Below 1000000000 (line_result line)
 unfolding line_result

@@ -3,11 +3,14 @@
 #![tactic(auto)]
 
 ghost use Rattle.std.specs.Prelude.{◌≡◌};
-ghost use Rattle.wallcheck.specs.Entry.{line_result, counted_result, row_result, lent};
+ghost use Rattle.basis.specs.declared.CheckResult.{CheckResult};
+ghost use Rattle.wallcheck.specs.Entry.{line_result, counted_result, row_result, cells_result, lent};
 
-use basis::CheckResult;
-use line::Reading;
+use basis::{CheckResult, Refusal};
+use line::CountedReading;
+use storey::StoreyWall;
 use worksheet::Row;
+use worksheet::cells::Cells;
 
 // The least length of a lent buffer; the text of every result fits it. A shorter one is refusal 20, before all others.
 const LEAST_BUFFER: usize = 64;
@@ -20,26 +23,20 @@ pub struct CountedResult {
     pub taken: u64,
 }
 
-// The result of a line, and the count in `taken`. Were both returned in one struct, an entry without the count would copy the result,
+// The result of a line, and the count in `taken`. A struct of both, or the reading handed to a function of its own, is copied by every entry,
 // which takes time.
 fn check_counting(line: &[u8], taken: &mut u64) -> CheckResult
     ensures { record { result = result; taken = taken.new } ≡ counted_result line.now }
 {
-    let counted = line::read(line);
-    *taken = counted.taken as u64;
-    let reading = counted.reading;
+    let CountedReading {
+        reading,
+        taken: count,
+    } = line::read(line);
+    *taken = count as u64;
     match reading {
-        Reading::Read(wall) => wall.check(),
-        Reading::Malformed => CheckResult::refused(1),
+        Some(wall) => wall.check(),
+        None => CheckResult::from(Refusal::NotALine),
     }
-}
-
-// The result of a line, of any bytes.
-pub fn check_line(line: &[u8]) -> CheckResult
-    ensures { result ≡ line_result line.now }
-{
-    let mut taken = 0;
-    check_counting(line, &mut taken)
 }
 
 // The result of a line, of any bytes, with the count of bytes taken.
@@ -51,34 +48,57 @@ pub fn check_line_taken(line: &[u8]) -> CountedResult
     CountedResult { result, taken }
 }
 
-// The result of a worksheet row, of any cells.
-pub fn check_row(row: Row) -> CheckResult
-    ensures { result ≡ row_result row }
-{
-    row.wall().check()
-}
-
 // What a lent buffer gets of a result, whatever it is the result of, and what is handed back.
 pub fn lend(outcome: CheckResult, out: &mut [u8]) -> CheckResult
     ensures { record { result = result; buffer = out.new } ≡ lent out.old outcome }
 {
     if out.len() < LEAST_BUFFER {
-        return CheckResult::refused(20);
+        return CheckResult::from(Refusal::BufferTooShort);
     }
     report::write(outcome, out);
     outcome
 }
 
-// The result of a line, also written to `out` as text.
-pub fn check_line_into(line: &[u8], out: &mut [u8]) -> CheckResult
-    ensures { record { result = result; buffer = out.new } ≡ lent out.old (line_result line.now) }
-{
-    lend(check_line(line), out)
+// What has a result.
+pub trait Checked: Copy {
+    ghost result_of: { Self → CheckResult };
+
+    fn check(self) -> CheckResult
+        ensures { result ≡ result_of self };
+
+    // The result, also written to `out` as text.
+    fn check_into(self, out: &mut [u8]) -> CheckResult
+        ensures { record { result = result; buffer = out.new } ≡ lent out.old (result_of self) }
+    {
+        lend(self.check(), out)
+    }
 }
 
-// The result of a worksheet row, also written to `out` as text.
-pub fn check_row_into(row: Row, out: &mut [u8]) -> CheckResult
-    ensures { record { result = result; buffer = out.new } ≡ lent out.old (row_result row) }
-{
-    lend(check_row(row), out)
+// A line, of any bytes.
+impl Checked for &[u8] {
+    ghost result_of = { λ line. line_result line.now };
+
+    fn check(self) -> CheckResult {
+        let mut taken = 0;
+        check_counting(self, &mut taken)
+    }
+}
+
+// A worksheet row, of any cells.
+impl Checked for Row {
+    ghost result_of = { row_result };
+
+    fn check(self) -> CheckResult {
+        StoreyWall::from(self).check()
+    }
+}
+
+// The cells of a worksheet row, held and c among them, of any content.
+impl Checked for Cells {
+    ghost result_of = { cells_result };
+
+    fn check(self) -> CheckResult {
+        let wall = StoreyWall::from(self);
+        wall.check()
+    }
 }

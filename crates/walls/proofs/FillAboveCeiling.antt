@@ -37,16 +37,14 @@ tests_agree w (inr refused) = refused ∙ sym (lt-ltb w.height w.fill (omega (ar
 pub other_fills_stay : OtherFillsStay
 other_fills_stay w stays = rw (tests_agree w stays)
 
+-- K with another fill and other loads.
+abbrev loaded_k : (e G Q : ℕ) → CellarWall
+loaded_k e G Q = with_imposed (with_dead (with_fill example_k e) G) Q
+
 -- If the two ends are accepted, so is what lies between them.
-between_ends : (e G Q G' Q' : ℕ) →
-    Accepted (check (with_imposed (with_dead (with_fill example_k e) G) Q)) →
-    Accepted (check (with_imposed (with_dead (with_fill example_k e) G') Q')) → AcceptedBetween e G Q G' Q'
+between_ends : (e G Q G' Q' : ℕ) → Accepted (check (loaded_k e G Q)) → Accepted (check (loaded_k e G' Q')) → AcceptedBetween e G Q G' Q'
 between_ends e G Q G' Q' low high dead imposed dead_from dead_to imposed_from imposed_to =
-    cellar_comparison
-    (with_imposed (with_dead (with_fill example_k e) G) Q)
-    (with_imposed (with_dead (with_fill example_k e) G') Q')
-    (with_imposed (with_dead (with_fill example_k e) dead) imposed)
-    low high
+    cellar_comparison (loaded_k e G Q) (loaded_k e G' Q') (loaded_k e dead imposed) low high
     (record {
       ends = refl;
       inside = refl;

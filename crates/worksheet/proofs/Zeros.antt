@@ -1,38 +1,27 @@
--- A number ends in p zeros exactly if it is a multiple of 2 ^ p. Assumes nothing.
-use Rattle.std.proofs.Common.{◌≡◌, ℕ, zero, suc, ◌*◌, ◌/◌, ◌%◌, ◌^◌, ◌<◌, ◌≤◌, sym, refl, ap, ◌∙◌, suc-le-suc, le_of_suc-le-suc, mul_assoc, suc-mul, pow-suc, zero-mul, mul-one, arith, pow_mono}
-use native.Mathlib.Decide.{dec_lt}
-use lib.Count.{count_trailing_zeros, under}
+-- Where a number of 64 bits ends in p zeros it is a multiple of 2 ^ p, and in fewer it is none. Assumes nothing.
+use Rattle.std.proofs.Common.{◌≡◌, ℕ, ◌+◌, ◌*◌, ◌/◌, ◌%◌, ◌^◌, ◌<◌, ◌≤◌, sym, ap, ◌∙◌, div-add-mod', mod-lt, lt_of_not-le, pow_pos, arith}
+use Rattle.std.specs.Int.{w64, bit_at}
+use Rattle.std.specs.Int.Count.{count_trailing_zeros}
+use Rattle.std.proofs.lemmas.Nat.Bits.{bit_at-trailing_zeros, bit_at_cat_low, bit_at_above, bit_at-zero, same_from_bits_below}
 
-double : (q p : ℕ) → q * 2 ^ suc p ≡ q * 2 ^ p * 2
-double q p = ap (λ (k : ℕ). q * k) (pow-suc 2 p) ∙ sym (mul_assoc q (2 ^ p) 2)
+module _ (n : ℕ) (some : 0 < n) (fits : n < 2 ^ 64) where
+  abbrev zeros : ℕ
+  zeros = count_trailing_zeros 64 n
 
-pub zeros_multiple : (d p n : ℕ) → p ≤ count_trailing_zeros d n → (q : ℕ) × (n ≡ q * 2 ^ p)
-unfolding count_trailing_zeros
-zeros_multiple d zero n h = (n, sym (mul-one n))
-zeros_multiple zero (suc p) n h = let z : ⊥ = omega arith in absurd z
-zeros_multiple (suc d) (suc p) n h = go (n % 2) refl (zeros_multiple d p (n / 2)) h
-  where
-    go : (r : ℕ) → n % 2 ≡ r → (p ≤ count_trailing_zeros d (n / 2) → (q : ℕ) × (n / 2 ≡ q * 2 ^ p)) → suc p ≤ under r (count_trailing_zeros d (n / 2))
-        → (q : ℕ) × (n ≡ q * 2 ^ suc p)
-    go zero even half h = let m = half (le_of_suc-le-suc h) in (m.0, omega (arith, m.1, double m.0 p))
-    go (suc r) odd half h = let z : ⊥ = omega arith in absurd z
+  pub zeros_multiple : (p : ℕ) → p ≤ zeros → n ≡ n / 2 ^ p * 2 ^ p
+  zeros_multiple p h =
+      let apart = div-add-mod' n (2 ^ p) in
+      let low_bit : (i : ℕ) → i < p → bit_at (n % 2 ^ p) i ≡ bit_at 0 i =
+      λ i l. sym (bit_at_cat_low (n / 2 ^ p) p (n % 2 ^ p) i l)
+      ∙ ap (λ (k : ℕ). bit_at k i) apart
+      ∙ (bit_at-trailing_zeros w64 n some fits).2 i (omega arith)
+      ∙ sym (bit_at-zero i) in
+      omega (arith, apart, same_from_bits_below p (n % 2 ^ p) 0 (mod-lt n (pow_pos p)) (pow_pos p) low_bit)
 
-pub multiple_zeros : (d p q : ℕ) → p ≤ d → p ≤ count_trailing_zeros d (q * 2 ^ p)
-unfolding count_trailing_zeros
-multiple_zeros d zero q h = omega arith
-multiple_zeros zero (suc p) q h = let z : ⊥ = omega arith in absurd z
-multiple_zeros (suc d) (suc p) q h = go (q * 2 ^ suc p) (double q p) (multiple_zeros d p q (le_of_suc-le-suc h))
-  where
-    go : (n : ℕ) → n ≡ q * 2 ^ p * 2 → p ≤ count_trailing_zeros d (q * 2 ^ p) → suc p ≤ under (n % 2) (count_trailing_zeros d (n / 2))
-    go n e h =
-        let even : n % 2 ≡ 0 = omega arith in
-        let half : n / 2 ≡ q * 2 ^ p = omega arith in
-        rw (even, half) (suc-le-suc h)
+  pub no_multiple : (p q : ℕ) → zeros < p → n ≡ q * 2 ^ p + 0 → ⊥
+  no_multiple p q h e =
+      let set = (bit_at-trailing_zeros w64 n some fits).1 in
+      omega (arith, set, ap (λ (k : ℕ). bit_at k zeros) e, bit_at_cat_low q p 0 zeros h, bit_at-zero zeros)
 
--- A number above 0 with at most k digits ends in fewer than k zeros.
-pub few_zeros : (p q n k : ℕ) → n ≡ q * 2 ^ p → 0 < n → n < 2 ^ k → p < k
-few_zeros p zero n k e some small = let z : ⊥ = omega (arith, zero-mul (2 ^ p)) in absurd z
-few_zeros p (suc q) n k e some small = elim (dec_lt p k) [
-  | yes h ↦ h
-  | no h ↦ let above : k ≤ p = omega arith in let z : ⊥ = omega (arith, suc-mul q (2 ^ p), pow_mono above) in absurd z
-]
+  pub few_zeros : (k : ℕ) → n < 2 ^ k → zeros < k
+  few_zeros k small = lt_of_not-le (λ h. omega (arith, (bit_at-trailing_zeros w64 n some fits).1, bit_at_above n k zeros small h))

@@ -1,8 +1,7 @@
 // The whole number that a cell holds, taken from the bits of its f64.
 ghost use Rattle.std.specs.Prelude.{◌≡◌};
-ghost use Rattle.worksheet.specs.Cell.{cell_number};
-
-use std::num::wrapping_sub_u64;
+ghost use Rattle.std.specs.Option.{unwrap_or};
+ghost use Rattle.worksheet.specs.Cell.{no_number, cell_number};
 
 // The bits of an f64 are a sign, an exponent of 11 bits and 52 digits. These are the weights of the sign and of the
 // exponent; the second is also that of the leading digit, which is not stored.
@@ -16,25 +15,30 @@ const LARGEST: u64 = 0x433f_ffff_ffff_ffff;
 // Stands for a cell that is no whole number; no range has it.
 const NO_NUMBER: u64 = 0xffff_ffff_ffff_ffff;
 
+// The number of a cell in a record.
+pub(crate) fn number(x: f64) -> u64
+    ensures { result ≡ cell_number x }
+{
+    whole_number(x).unwrap_or(NO_NUMBER)
+}
+
 // Each exponent below that of the largest number moves one more digit behind the point. The number is whole where
 // these digits are 0, and what stands before them is then the number. A significand ends in 52 zeros at most; below 1
 // more than 52 digits stand behind the point, and for a negative or too large x the difference wraps to more than 1000.
-// The last two tests choose between values at hand: a branch would have to guess which cells are 0.
-pub fn number(x: f64) -> u64
-    ensures { result ≡ cell_number x }
+// The last test chooses between values at hand: a branch would have to guess which cells are 0.
+fn whole_number(x: f64) -> Option<u64>
+    ensures { unwrap_or result no_number ≡ cell_number x }
 {
-    if x != x {
-        return NO_NUMBER; // a NaN
+    if x.is_nan() {
+        return None;
     }
-    let bits = f64::to_bits(x);
-    let places = wrapping_sub_u64(LARGEST, bits) / LEADING;
+    let bits = x.to_bits();
+    let places = LARGEST.wrapping_sub(bits) / LEADING;
     let significand = LEADING + bits % LEADING;
-    let mut number = NO_NUMBER; // a fraction, negative, too large, or infinite
-    if bits % SIGN == 0 {
-        number = 0; // zero of either sign
+    let zero = (bits % SIGN == 0).then_some(0); // zero of either sign
+    if places <= significand.trailing_zeros() as u64 {
+        Some(significand >> places)
+    } else {
+        zero // or none: a fraction, negative, too large, or infinite
     }
-    if places <= u64::trailing_zeros(significand) as u64 {
-        number = significand >> places;
-    }
-    number
 }

@@ -5,7 +5,8 @@ ghost use Rattle.worksheet.specs.Cells.{cells_wall};
 use crate::cell;
 use storey::StoreyWall;
 
-// The cells, one for each number of `StoreyWall`, in document 01's order.
+// The cells, one for each number of `StoreyWall`, in document 01's order. Not `Row` with a type parameter for the
+// holding: no struct with type arguments may cross to C.
 #[repr(C)]
 #[derive(Clone, Copy)]
 pub struct Cells {
@@ -30,32 +31,32 @@ pub struct Cells {
     pub wind: f64,
 }
 
-impl Cells {
-    // The record with the cells' numbers. A cell that is no whole number leaves one in its place that is in no range; held and c are
-    // as on a line, by their ranges.
-    pub fn wall(self) -> StoreyWall
-        ensures { result ≡ cells_wall self }
-    {
+// The record with the cells' numbers. A cell that is no whole number leaves one in its place that is in no range; held and c are
+// as on a line, by their ranges.
+impl From<Cells> for StoreyWall {
+    ghost from_gives = { λ cells wall. wall ≡ cells_wall cells };
+
+    fn from(cells: Cells) -> StoreyWall {
         StoreyWall {
-            usage: cell::number(self.usage),
-            thickness: cell::number(self.thickness),
-            height: cell::number(self.height),
-            length: cell::number(self.length),
-            held: cell::number(self.held),
-            distance: cell::number(self.distance),
-            support: cell::number(self.support),
-            span: cell::number(self.span),
-            bearing: cell::number(self.bearing),
-            strength: cell::number(self.strength),
-            bonded: cell::number(self.bonded),
-            dead: cell::number(self.dead),
-            imposed: cell::number(self.imposed),
-            floorload: cell::number(self.floorload),
-            building: cell::number(self.building),
-            storeys: cell::number(self.storeys),
-            otherspan: cell::number(self.otherspan),
-            calciumsilicate: cell::number(self.calciumsilicate),
-            wind: cell::number(self.wind),
+            usage: cell::number(cells.usage),
+            thickness: cell::number(cells.thickness),
+            height: cell::number(cells.height),
+            length: cell::number(cells.length),
+            held: cell::number(cells.held),
+            distance: cell::number(cells.distance),
+            support: cell::number(cells.support),
+            span: cell::number(cells.span),
+            bearing: cell::number(cells.bearing),
+            strength: cell::number(cells.strength),
+            bonded: cell::number(cells.bonded),
+            dead: cell::number(cells.dead),
+            imposed: cell::number(cells.imposed),
+            floorload: cell::number(cells.floorload),
+            building: cell::number(cells.building),
+            storeys: cell::number(cells.storeys),
+            otherspan: cell::number(cells.otherspan),
+            calciumsilicate: cell::number(cells.calciumsilicate),
+            wind: cell::number(cells.wind),
         }
     }
 }

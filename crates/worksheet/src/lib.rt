@@ -5,7 +5,6 @@ mod cell;
 pub mod cells;
 
 ghost use Rattle.std.specs.Prelude.{◌≡◌};
-ghost use Rattle.worksheet.specs.Cell.{cell_number};
 ghost use Rattle.worksheet.specs.Entry.{entry_number};
 ghost use Rattle.worksheet.specs.Row.{held_sides, distance_entry, row_wall};
 
@@ -56,51 +55,43 @@ impl Holding {
         }
     }
 
-    // The cell of c; 0 stands for it on two sides, whatever a caller has there.
-    fn distance_cell(self) -> f64
-        ensures { cell_number result ≡ entry_number (distance_entry self) }
-    {
-        match self {
-            Holding::TwoSides => 0.0,
-            Holding::ThreeSides(edge) => edge,
-            Holding::FourSides(spacing) => spacing,
-        }
-    }
-
     // c
     fn distance(self) -> u64
         ensures { result ≡ entry_number (distance_entry self) }
     {
-        cell::number(self.distance_cell())
+        match self {
+            Holding::TwoSides => 0,
+            Holding::ThreeSides(edge) => cell::number(edge),
+            Holding::FourSides(spacing) => cell::number(spacing),
+        }
     }
 }
 
-impl Row {
-    // The record with the row's numbers. A cell that is no whole number leaves one in its place that is in no range.
-    pub fn wall(self) -> StoreyWall
-        ensures { result ≡ row_wall self }
-    {
-        let holding = self.holding;
+// The record with the row's numbers. A cell that is no whole number leaves one in its place that is in no range.
+impl From<Row> for StoreyWall {
+    ghost from_gives = { λ row wall. wall ≡ row_wall row };
+
+    fn from(row: Row) -> StoreyWall {
         StoreyWall {
-            usage: cell::number(self.usage),
-            thickness: cell::number(self.thickness),
-            height: cell::number(self.height),
-            length: cell::number(self.length),
-            held: holding.held(),
-            distance: holding.distance(),
-            support: cell::number(self.support),
-            span: cell::number(self.span),
-            bearing: cell::number(self.bearing),
-            strength: cell::number(self.strength),
-            bonded: cell::number(self.bonded),
-            dead: cell::number(self.dead),
-            imposed: cell::number(self.imposed),
-            floorload: cell::number(self.floorload),
-            building: cell::number(self.building),
-            storeys: cell::number(self.storeys),
-            otherspan: cell::number(self.otherspan),
-            calciumsilicate: cell::number(self.calciumsilicate),
-            wind: cell::number(self.wind),
+            usage: cell::number(row.usage),
+            thickness: cell::number(row.thickness),
+            height: cell::number(row.height),
+            length: cell::number(row.length),
+            held: row.holding.held(),
+            distance: row.holding.distance(),
+            support: cell::number(row.support),
+            span: cell::number(row.span),
+            bearing: cell::number(row.bearing),
+            strength: cell::number(row.strength),
+            bonded: cell::number(row.bonded),
+            dead: cell::number(row.dead),
+            imposed: cell::number(row.imposed),
+            floorload: cell::number(row.floorload),
+            building: cell::number(row.building),
+            storeys: cell::number(row.storeys),
+            otherspan: cell::number(row.otherspan),
+            calciumsilicate: cell::number(row.calciumsilicate),
+            wind: cell::number(row.wind),
         }
     }
 }

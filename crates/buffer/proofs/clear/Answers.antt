@@ -1,18 +1,15 @@
--- `buffer::clear` meets its contract: each turn of the loop puts one zero more.
-use Rattle.std.proofs.Common.{arith, rules, sym}
-use lib.ListN.{length-replicate, get_or-replicate}
-use borrow.Author.Tests.{leb-true, leb-false}
-use Rattle.buffer.proofs.Overwrite.{overwrite_none, overwrite_more, overwrite_beyond}
+-- `buffer::clear` meets its contract.
+use Rattle.std.proofs.Common.{ℕ, arith, ap, ◌+◌, ◌≡◌, ◌∙◌, length, replicate, length-take, length-drop, sym}
+use lib.ListN.{length-replicate}
+use Rattle.buffer.proofs.Overwrite.{overwrite_lent, overwrite_beyond}
 use Rattle.buffer.proofs.clear.Goals as goal
 
-pub loop-done-init : goal.loop-done-init
-loop-done-init c = (leb-true _ _ (sym c.if-within.ensures), search rules, sym (overwrite_none _ _))
+pub returns-in-Some : goal.returns-in-Some
+returns-in-Some c =
+    let here = c.in-Some.ensures in
+    let count : length (replicate {A = ℕ} c.args.count 0) ≡ c.args.count = length-replicate c.args.count 0 in
+    let zeros = c.fill.ensures.after (λ y e. e) ∙ ap (λ n. replicate n 0) (simp (length-take, length-drop) (omega arith)) in
+    overwrite_lent _ _ _ _ _ here.0 (here.1 ∙ ap (λ n. c.args.at + n) (sym count)) here.2 zeros
 
-pub loop-done-preserved : goal.loop-done-preserved
-loop-done-preserved c =
-    let inv = c.loop-done.invariant in
-    let more = c.loop-done-test.true in
-    (search rules, omega arith, overwrite_more _ _ _ _ (rw length-replicate (omega arith)) (rw length-replicate more) inv.2 (sym (get_or-replicate _ _ _ _ more)))
-
-pub returns-else-within : goal.returns-else-within
-returns-else-within c = sym (overwrite_beyond _ _ _ (rw length-replicate (leb-false _ _ (sym c.if-within.ensures))))
+pub returns-in_default : goal.returns-in_default
+returns-in_default c = sym (overwrite_beyond _ _ _ (rw length-replicate c.in_default.ensures))

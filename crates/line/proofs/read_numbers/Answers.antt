@@ -1,73 +1,49 @@
 -- `line::read_numbers` meets its contract: each way through the code takes one byte, and proofs/Steps says that it keeps what holds at the heads of
 -- the loops.
-use mathlib.Core.Path.{◌≡◌, sym, ap, ◌∙◌}
-use mathlib.Core.Bool.{true, ◌&&◌}
-use Prim.Native.Nat.{ℕ, ◌<◌}
 use native.Mathlib.Omega.{arith}
-use lib.Dec.{ltb}
-use borrow.Author.Tests.{ltb-true, ltb-false, lt-ltb}
-use Rattle.walls.specs.declared.Wall.{Wall}
-use Rattle.line.specs.declared.Reading.TheVariants.{Read}
 use Rattle.line.specs.Grammar.{count_of}
-use Rattle.basis.proofs.Choice.{and_left}
-use Rattle.line.proofs.Automaton.{counted}
-use Rattle.line.proofs.Steps.{opened, index, missing, number_ended, digit_taken, digit_wrong, line_ended, all_read}
+use Rattle.line.proofs.Steps.{opened, index, no_digit_before, number_missing, number_ended, digit_taken, digit_wrong, line_ended, all_read}
 use Rattle.line.proofs.read_numbers.Goals as goal
-use Rattle.line.proofs.read_numbers.Goals.{
-  else-digits-test,
-  then-digits-test+then-byte-digits,
-  else-numbers-test,
-  then-numbers-test+then-digits-test+else-byte-digits+then-next-digits,
-}
+use Rattle.line.proofs.read_numbers.Goals.{in-Some+then-byte-digits, in_default}
 
--- In a turn of the outer loop a number is wanted.
-wanting : (k wanted at end : ℕ) → (ltb k wanted && ltb at end) ≡ true → k < wanted
-wanting k wanted at end e = ltb-true k wanted (and_left _ _ e)
-
-pub numbers-init : goal.numbers-init
+pub loop-k-init : goal.loop-k-init
 unfolding count_of
-numbers-init c = opened _ _ _ c.requires _ (omega arith)
+loop-k-init c = opened _ _ _ _ c.count-count.ensures (omega arith)
 
-pub numbers-preserved : goal.numbers-preserved
-numbers-preserved c =
-    let another = wanting _ _ _ _ c.numbers-test.true in
-    elim c.digits-test.branch [
-      | else-digits-test w ↦ rw w.at-is (line_ended c.numbers.invariant another c.digits.invariant w.digits-test.false)
-      | then-digits-test+then-byte-digits w ↦
-          rw w.at-is (number_ended c.numbers.invariant another c.digits.invariant w.digits-test.true w.if-byte-digits.true)
+pub loop-byte-preserved : goal.loop-byte-preserved
+loop-byte-preserved c =
+    digit_taken c.loop-k.invariant c.loop-k-test.true c.loop-byte.invariant c.in-Some.ensures c.if-byte-digits.false
+    (rw c.is_ascii_digit.ensures.value at c.if-is_ascii_digit-digits.false)
+
+pub loop-k-preserved : goal.loop-k-preserved
+loop-k-preserved c =
+    elim c.match-next.branch [
+      | in-Some+then-byte-digits w ↦
+          number_ended c.loop-k.invariant c.loop-k-test.true c.loop-byte.invariant w.in-Some.ensures w.if-byte-digits.true
+      | in_default w ↦
+          line_ended c.loop-k.invariant c.loop-k-test.true c.loop-byte.invariant w.in_default.ensures (omega arith)
     ]
-
-pub digits-preserved : goal.digits-preserved
-digits-preserved c =
-    digit_taken c.numbers.invariant (wanting _ _ _ _ c.numbers-test.true) c.digits.invariant c.digits-test.true c.digit-next.ensures
-    c.if-byte-digits.false c.if-next-digits.false
 
 pub offset_bounds-numbers-k : goal.offset_bounds-numbers-k
 unfolding count_of
-offset_bounds-numbers-k c = omega (arith, index c.numbers.invariant (wanting _ _ _ _ c.numbers-test.true))
+offset_bounds-numbers-k c = omega (arith, index c.loop-k.invariant c.loop-k-test.true)
 
 pub bounds-numbers-k : goal.bounds-numbers-k
 unfolding count_of
-bounds-numbers-k c = index c.numbers.invariant (wanting _ _ _ _ c.numbers-test.true)
+bounds-numbers-k c = index c.loop-k.invariant c.loop-k-test.true
 
-pub returns : goal.returns
-returns c =
-    c.counted-2.ensures
-    ∙ ap (λ (w : Wall). counted (Read w) c.numbers-test.at) c.wall.ensures
-    ∙ sym (elim c.numbers-test.branch [
-      | else-numbers-test w ↦ rw w.at-is (all_read c.numbers.invariant c.if-k-wanted.false)
-      | then-numbers-test+then-digits-test+else-byte-digits+then-next-digits w ↦
-          let another : c.numbers.k < c.args.wanted = wanting _ _ _ _ w.numbers-test.true in absurd (omega arith)
-    ])
+pub returns-then-is_ascii_digit-digits : goal.returns-then-is_ascii_digit-digits
+returns-then-is_ascii_digit-digits c =
+    digit_wrong c.loop-k.invariant c.loop-k-test.true c.loop-byte.invariant c.in-Some.ensures c.if-byte-digits.false
+    (rw c.is_ascii_digit.ensures.value at c.if-is_ascii_digit-digits.true)
 
-pub returns-then-k-wanted : goal.returns-then-k-wanted
-returns-then-k-wanted c =
-    let another = c.if-k-wanted.true in
-    c.counted.ensures
-    ∙ sym (elim c.numbers-test.branch [
-      | else-numbers-test w ↦
-          rw w.at-is (missing c.numbers.invariant another (ltb-false _ _ (rw (lt-ltb _ _ another) at w.numbers-test.false)))
-      | then-numbers-test+then-digits-test+else-byte-digits+then-next-digits w ↦
-          rw w.at-is (digit_wrong c.numbers.invariant another w.digits.invariant w.digits-test.true w.digit-next.ensures w.if-byte-digits.false
-          w.if-next-digits.true)
-    ])
+pub returns-then-digits-eq0 : goal.returns-then-digits-eq0
+returns-then-digits-eq0 c =
+    elim c.match-next.branch [
+      | in-Some+then-byte-digits w ↦ absurd (no_digit_before _ _ _ _ w.if-byte-digits.true c.if-digits-eq0.true)
+      | in_default w ↦
+          number_missing c.loop-k.invariant c.loop-k-test.true c.loop-byte.invariant w.in_default.ensures c.if-digits-eq0.true
+    ]
+
+pub returns-after-loop-k : goal.returns-after-loop-k
+returns-after-loop-k c = all_read c.loop-k.invariant (omega arith) c.wall.ensures

@@ -26,5 +26,5 @@ returns-then-line-eq0 c = last_none _ _ c.if-line-eq0.true
 
 pub returns : goal.returns
 returns c =
-    let result = c.check_line.ensures ∙ sym (schedule_result_lem c.args.line.now) in
+    let result = c.check.ensures ∙ sym (schedule_result_lem c.args.line.now) in
     c.write.ensures ∙ ap (λ (r : CheckResult). written r c.args.output.now) result ∙ last_line _ _ c.if-line-eq0.false

@@ -1,24 +1,13 @@
--- `schedule::answer_all` is safe and ends: what `answer` hands back lies within the buffers, and fewer bytes are left.
+-- `schedule::answer_all` is safe and ends: the text lies within the output, and fewer bytes are held.
 use native.Mathlib.Omega.{arith}
-use mathlib.Core.Bool.{Bool, true, false, cond}
-use mathlib.Core.Path.{◌≡◌, refl}
-use Prim.Native.Nat.{ℕ, ◌+◌, ◌<◌}
-use Rattle.lines.proofs.Bounds.{written_within, held_within, held_falls}
+use borrow.Author.Tests.{not-false}
+use Rattle.lines.proofs.Bounds.{written_within, held_falls}
 use Rattle.schedule.proofs.answer_all.Goals as goal
 
-falls : (more : Bool) (held left : ℕ) → (more ≡ true → held < left) → cond more (held + 1) 0 < left + 1
-falls true held left fewer = omega (arith, fewer refl)
-falls false held left fewer = omega arith
+pub shared_ref_as_front-write : goal.shared_ref_as_front-write
+shared_ref_as_front-write g c =
+    omega (arith, written_within c.loop.input.buffer.now c.loop.input.held c.loop.output c.answer-progress.ensures, c.answer-progress.auto.output)
 
-pub write-requires : goal.write-requires
-write-requires g c =
-    omega (arith, written_within c.loop-more.input c.loop-more.left c.loop-more.output c.answer-progress.ensures, c.answer-progress.auto.output)
-
-pub loop-more-smaller : goal.loop-more-smaller
-loop-more-smaller g c =
-    rw c.loop-more-test.true
-    (falls _ _ _ (held_falls c.loop-more.input c.loop-more.left c.loop-more.output c.answer-progress.ensures (omega (arith, c.requires.1, c.loop-more.auto.output))))
-
-pub loop-more-preserved : goal.loop-more-preserved
-loop-more-preserved g c =
-    omega (arith, held_within c.loop-more.input c.loop-more.left c.loop-more.output c.answer-progress.ensures, c.answer-progress.auto.input)
+pub loop-smaller : goal.loop-smaller
+loop-smaller g c =
+    held_falls c.loop.input.buffer.now c.loop.input.held c.loop.output c.answer-progress.ensures (omega (arith, c.answer-progress.auto.output)) (not-false _ c.if-not-progress.false)

@@ -3,5 +3,5 @@ use native.Mathlib.Omega.{arith}
 use Rattle.lines.proofs.Bounds.{last_within}
 use Rattle.schedule.proofs.turn.Goals as goal
 
-pub write-requires : goal.write-requires
-write-requires g c = omega (arith, last_within _ _ c.answer_last-count.ensures, c.answer_last-count.auto.output)
+pub shared_ref_as_front-write : goal.shared_ref_as_front-write
+shared_ref_as_front-write g c = omega (arith, last_within _ _ c.answer_last-written.ensures, c.answer_last-written.auto.output)

@@ -1,16 +1,14 @@
--- `text::line_end` meets its contract: a line ends behind the block or at byte 10, and any other byte is passed.
-use Rattle.std.proofs.Common.{◌∙◌}
-use Rattle.text.proofs.LineEnd.{passed_byte, end_behind, end_here}
+-- `text::line_end` meets its contract.
+use Rattle.std.proofs.Common.{arith, ap, ◌+◌, ◌∙◌, ◌≡◌, drop}
+use Rattle.std.proofs.lemmas.List.{take_rest}
+use Rattle.text.specs.LineEnd.{line_length}
+use Rattle.text.proofs.LineEnd.{end_behind, line_length_first}
 use Rattle.text.proofs.line_end.Goals as goal
 
-pub returns-then-block-from : goal.returns-then-block-from
-returns-then-block-from c = end_behind _ _ c.if-block-from.true
+pub returns : goal.returns
+returns c =
+    let rest : c.in-Some.rest.now ≡ drop c.args.from c.args.block.now = c.in-Some.ensures.lookup.0.2 ∙ take_rest c.args.block.now c.args.from in
+    ap (λ n. c.args.from + n) (c.unwrap_or.ensures ∙ line_length_first _ _ c.memchr.ensures ∙ ap line_length rest)
 
-pub loop-at-preserved : goal.loop-at-preserved
-loop-at-preserved c = passed_byte c.loop-at.invariant c.loop-at-test.true c.if-block-at-eq-LINE_END.false
-
-pub returns-after-loop-at : goal.returns-after-loop-at
-returns-after-loop-at c = end_behind _ _ c.loop-at-test.false ∙ c.loop-at.invariant.end
-
-pub returns-then-block-at-eq-LINE_END : goal.returns-then-block-at-eq-LINE_END
-returns-then-block-at-eq-LINE_END c = end_here _ _ c.loop-at-test.true c.if-block-at-eq-LINE_END.true ∙ c.loop-at.invariant.end
+pub returns-in_default : goal.returns-in_default
+returns-in_default c = end_behind _ _ (omega (arith, c.in_default.ensures.lookup))

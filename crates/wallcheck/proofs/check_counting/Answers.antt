@@ -5,8 +5,8 @@ use Rattle.walls.specs.Check.{check}
 use Rattle.wallcheck.proofs.Entry.{counted_result_lem}
 use Rattle.wallcheck.proofs.check_counting.Goals as goal
 
-pub returns-in-Read : goal.returns-in-Read
-returns-in-Read c = counted_result_lem _ _ _ c.read-counted.ensures (c.check.ensures ∙ sym (ap (reading_result check) c.in-Read.is))
+pub returns-in-Some : goal.returns-in-Some
+returns-in-Some c = counted_result_lem _ _ _ c.read-reading.ensures (c.check.ensures ∙ sym (ap (reading_result check) c.in-Some.is))
 
-pub returns-in-Malformed : goal.returns-in-Malformed
-returns-in-Malformed c = counted_result_lem _ _ _ c.read-counted.ensures (c.refused.ensures ∙ sym (ap (reading_result check) c.in-Malformed.is))
+pub returns-in-None : goal.returns-in-None
+returns-in-None c = counted_result_lem _ _ _ c.read-reading.ensures (c.from.ensures ∙ sym (ap (reading_result check) c.in-None.is))

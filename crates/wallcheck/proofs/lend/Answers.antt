@@ -7,7 +7,7 @@ use Rattle.wallcheck.proofs.lend.Goals as goal
 
 pub returns-then-out-lt-LEAST_BUFFER : goal.returns-then-out-lt-LEAST_BUFFER
 unfolding lent
-returns-then-out-lt-LEAST_BUFFER c = rw (c.refused.ensures, lt-ltb _ 64 c.if-out-lt-LEAST_BUFFER.true)
+returns-then-out-lt-LEAST_BUFFER c = rw (c.from.ensures, lt-ltb _ 64 c.if-out-lt-LEAST_BUFFER.true)
 
 pub returns : goal.returns
 unfolding lent

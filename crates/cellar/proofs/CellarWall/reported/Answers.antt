@@ -1,18 +1,8 @@
--- `CellarWall::reported` meets its contract: the five numbers are the definition's, and fit 32 bits.
-use native.Mathlib.Omega.{arith}
-use Rattle.basis.specs.Refusal.{first_or}
-use Rattle.basis.proofs.Check.{reported_numbers}
-use Rattle.cellar.specs.Check.{parts}
-use Rattle.cellar.proofs.Load.{load_most}
-use Rattle.cellar.proofs.Resistance.{resistance_most}
+-- `CellarWall::reported` meets its contract: where the limits give no error, none of them applies.
+use mathlib.Core.Path.{sym}
+use Rattle.basis.proofs.FirstRefusal.{none_without_err}
+use Rattle.cellar.specs.Limits.{limits}
 use Rattle.cellar.proofs.CellarWall.reported.Goals as goal
 
-pub overflow_cast-load : goal.overflow_cast-load
-overflow_cast-load c = omega (arith, c.load-load.ensures, load_most c.args.self c.requires.in_range)
-
-pub overflow_cast-resistance : goal.overflow_cast-resistance
-overflow_cast-resistance c = omega (arith, c.resistance-resistance.ensures, resistance_most c.args.self c.requires.in_range)
-
-pub returns : goal.returns
-unfolding first_or
-returns c = cc (reported_numbers (parts c.args.self) c.requires.in_range c.requires.within_limits)
+pub invariant_of-reported : goal.invariant_of-reported
+invariant_of-reported c = record { within_limits = none_without_err (limits c.args.self) _ _ (sym c.in_ok-limits.ensures) }

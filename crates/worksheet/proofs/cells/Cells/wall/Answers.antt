@@ -1,5 +1,0 @@
--- `Cells::wall` meets its contract: each cell's number is the definition's.
-use Rattle.worksheet.proofs.cells.Cells.wall.Goals as goal
-
-pub returns : goal.returns
-returns c = cc
