@@ -1,5 +1,5 @@
 -- Laws of the output (LongLine, Output), of what is answered and held (EndedLines), of the code's steps (Answering,
--- AnswerCall) and for callers (Bounds); the claims.
+-- AnswerCall) and for callers (Bounds); of a search by halves (LineSearch); the claims.
 pub mod LongLine
 pub mod Output
 pub mod EndedLines
@@ -8,3 +8,4 @@ pub mod AnswerCall
 pub mod Bounds
 pub mod Claims
 pub mod WholeCase
+pub mod LineSearch
