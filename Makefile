@@ -8,11 +8,12 @@
 PREFIX ?= /usr/local
 # The first number, which is also the shared library's, is raised where a struct or a function's arguments change, the
 # second where a result changes or a function is added.
-VERSION = 4.3.0
+VERSION = 4.4.0
 SONAME = libwallcheck.so.$(firstword $(subst ., ,$(VERSION)))
 SHARED = libwallcheck.so.$(VERSION)
 PROGRAM = crates/schedule/out/schedule
-FUNCTIONS = wallcheck_edition wallcheck_line wallcheck_line_taken wallcheck_line_into wallcheck_row wallcheck_row_into
+FUNCTIONS = wallcheck_edition wallcheck_line wallcheck_line_taken wallcheck_line_into wallcheck_row wallcheck_row_into \
+	wallcheck_minimum_load_line wallcheck_minimum_load_line_into wallcheck_minimum_load_row wallcheck_minimum_load_row_into
 BUILD = build
 ifeq ($(origin CC),default)
 CC = gcc
@@ -39,7 +40,7 @@ dist/libwallcheck.so: $(SOURCES) crates.txt include/wallcheck.h Makefile
 
 callers: lib
 	@$(CC) -std=c11 -O2 -Wall -Wextra -Werror -Iinclude callers/c/acceptance.c dist/libwallcheck.a -o $(BUILD)/acceptance
-	@$(BUILD)/acceptance callers/cases.txt callers/rows.txt
+	@$(BUILD)/acceptance $(addprefix callers/,cases.txt rows.txt minimum_load_lines.txt minimum_load_rows.txt)
 	@$(CARGO_ENV) cargo run --quiet --release --offline --manifest-path callers/rust/Cargo.toml --bin acceptance
 	@python3 callers/python/compare.py dist/libwallcheck.so
 	@test "$$(nm -D --defined-only dist/libwallcheck.so | awk '{print $$3}' | sort | tr '\n' ' ')" = "$(sort $(FUNCTIONS)) "

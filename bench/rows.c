@@ -11,3 +11,13 @@ wallcheck_result rows_check_into(const wallcheck_cells *cells, uint8_t *out, siz
 {
     return wallcheck_row_into(*cells, out, out_len);
 }
+
+wallcheck_result rows_minimum_load(const wallcheck_cells *cells, double wind)
+{
+    return wallcheck_minimum_load_row(*cells, wind);
+}
+
+wallcheck_result rows_minimum_load_into(const wallcheck_cells *cells, double wind, uint8_t *out, size_t out_len)
+{
+    return wallcheck_minimum_load_row_into(*cells, wind, out, out_len);
+}

@@ -28,11 +28,13 @@ extern "C" {
  * 10 bearing, 11 strength, 12 slenderness, 13 load above the resistance;
  * cellar walls: 14 thickness, 15 clear height, 16 height of fill, 17 load on the ground, 11 strength,
  * 18 load above the resistance, 19 dead load below the required one;
- * 20 output buffer under 64 bytes.
- * Refusals other than 13, 18 and 19 leave the other four numbers 0. */
+ * 20 output buffer under 64 bytes;
+ * the functions of the minimum load alone: 21 dead load below the minimum load.
+ * Refusals other than 13, 18, 19 and 21 leave the other four numbers 0. */
 typedef struct {
     uint64_t refusal;        /* 0 accepted, else the first refusal that applies */
-    uint64_t length_or_need; /* storey wall: buckling length in tenths of a mm; cellar wall: required dead load */
+    uint64_t length_or_need; /* storey wall: buckling length in tenths of a mm; cellar wall: required dead load;
+                              * minimum load, accepted or refusal 21: that load */
     uint64_t load;           /* design load N: 1.35G + 1.5Q; storey wall with q up to 3000: the smaller of that and
                               * 1.4(G + Q); rounded up */
     uint64_t resistance;     /* resistance */
@@ -96,6 +98,25 @@ wallcheck_result wallcheck_row(wallcheck_cells cells);
 
 /* The same, and the result as text in `out`, as in wallcheck_line_into. */
 wallcheck_result wallcheck_row_into(wallcheck_cells cells, uint8_t *out, size_t out_len);
+
+/* The minimum load in the top storey: whether the dead load of a storey wall reaches what it needs against the wind.
+ * `wind` is the design wind load in N/m2, a whole number, 1..10000; the wind in the record is the characteristic one and
+ * does not enter here.
+ *
+ * The ordinary check comes first. Its refusal is returned as wallcheck_line or wallcheck_row returns it; `wind` out of
+ * range is refusal 2 too, and a line that is not of the form S and 19 numbers, a cellar wall's among them, is refusal 1.
+ * Where the ordinary check accepts, the result is accepted or refusal 21, its second number is the minimum load
+ * 9 wind h^2 / (160 (300 a - h)), rounded up, and its other numbers are those of the ordinary check. */
+wallcheck_result wallcheck_minimum_load_line(const uint8_t *line, size_t len, uint64_t wind);
+
+/* The same, and the result as text in `out`, as in wallcheck_line_into. */
+wallcheck_result wallcheck_minimum_load_line_into(const uint8_t *line, size_t len, uint64_t wind, uint8_t *out,
+                                                  size_t out_len);
+
+/* The same for a worksheet row; `wind` is a cell like the others. */
+wallcheck_result wallcheck_minimum_load_row(wallcheck_cells cells, double wind);
+
+wallcheck_result wallcheck_minimum_load_row_into(wallcheck_cells cells, double wind, uint8_t *out, size_t out_len);
 
 #ifdef __cplusplus
 }

@@ -16,8 +16,8 @@ import sys
 from itertools import chain, islice
 
 from cases import read_lines
-from walls import (A, CELLAR_RANGES, CellarWall, K, STOREY_RANGES, StoreyWall, check, factor_r, greatest_height,
-                   line_of, need, row_of)
+from walls import (A, CELLAR_RANGES, CellarWall, K, STOREY_RANGES, StoreyWall, WIND_RANGE, check, factor_r,
+                   greatest_height, line_of, minimum_load, need, row_of)
 
 LARGEST = 999999999
 S, C = A._replace, K._replace
@@ -490,6 +490,83 @@ def storey_records(count):
     """Records that both a line and a row can hold."""
     walls = chain(storey_edges(), random_storey_walls(Numbers(5)))
     return islice((wall for wall in walls if max(wall) <= LARGEST), count)
+
+
+# ---- A design wind W beside the record: document 02, #106
+
+# At and around the bounds of W and of its figure, and what would be within them in fewer bits.
+WINDS = [*near(*WIND_RANGE, 780), 5000, 2**16 + 1, 2**32, 2**32 + 780, 2**63, 2**64 - 1]
+
+
+def minimum_load_edges():
+    """Records with W at and around its bounds; with G at the need and beside it, also where the load is above the
+    resistance, which is 13 before 21; and with the greatest heights and the shallowest bearings."""
+    for wall in STOREY_WALLS:
+        yield from ((wall, W) for W in WINDS)
+    high = (S(use=1, t=t, a=a, h=h, F=5000) for t in (240, 365, 1000) for a in (101, t // 2 + 1, 175, t) if a <= t
+            for h in (2750, 3600, 20 * t) if h <= 20000)
+    shallow = (S(t=t, a=a, h=h) for t in (200, 202, 203) for a in (101, 102) for h in (1, 2, 600, 2749, 2750))
+    for wall in (*STOREY_WALLS, *high, *shallow):
+        for W in (1, 2, 780, 1250, 9999, 10000):
+            for G in near(minimum_load(wall, W)):
+                yield wall._replace(G=G, Q=1000), W
+                yield wall._replace(G=G, Q=10000000), W
+    for G in (1, 2, 100, 6061, 6062, 77714, 77715):
+        yield from ((S(G=G), W) for W in near(160 * G * (300 * A.a - A.h) // (9 * A.h**2)))
+    # With these, 27 N/m for each 40 N/m² of W, the exact need is whole.
+    for W in near(40, 400, 4000, 10000):
+        for G in near(27 * W // 40):
+            yield S(t=200, a=102, h=600, G=G), W
+
+
+def random_walls_with_wind(numbers):
+    """Random records and W, every third with G at the need or beside it."""
+    for wall in random_storey_walls(numbers):
+        W = numbers.one_of(WINDS) if numbers.one_in(10) else wide_number(numbers, *WIND_RANGE)
+        if numbers.one_in(3) and wall.h < 300 * wall.a and W <= 10001:
+            wall = wall._replace(G=max(0, minimum_load(wall, W) + numbers.within(-2, 1)))
+        yield wall, W
+
+
+def random_lines_with_wind(numbers):
+    for wall, W in random_walls_with_wind(numbers):
+        kind = numbers.within(1, 20)
+        if kind == 1:
+            yield line_of(moderate_cellar(numbers)), W
+        elif kind == 2:
+            yield random_damage(numbers, line_of(wall)), W
+        else:
+            yield line_of(wall), W
+
+
+def lines_with_wind(count):
+    """Each edge once, then random lines; all with W."""
+    edges = chain(((line_of(wall), W) for wall, W in minimum_load_edges()),
+                  ((line, W) for line in read_lines() for W in (0, 780, 10001)))
+    return islice(chain(dict.fromkeys(edges), random_lines_with_wind(Numbers(6))), count)
+
+
+def wind_cells():
+    """The words of cells for W: at and around its bounds, with the floating-point numbers around them, and the special ones."""
+    return sorted({bits(cell) for W in WINDS for cell in (
+        float(W), W + 0.5, -float(W), math.nextafter(W, math.inf), math.nextafter(W, -math.inf))} | set(SPECIAL))
+
+
+def random_rows_with_wind(numbers):
+    for wall, W in random_walls_with_wind(numbers):
+        words = [*words_of(wall), bits(float(W))]
+        if numbers.one_in(8):
+            place = numbers.within(0, len(words) - 1)
+            words[place] = numbers.one_of((words[place] ^ 1 << numbers.within(0, 63), numbers.one_of(SPECIAL)))
+        yield words
+
+
+def rows_with_wind(count):
+    """The words of a row's cells and, last, that of W's cell."""
+    edges = chain(([*words_of(wall), bits(float(W))] for wall, W in minimum_load_edges()),
+                  ([*words_of(wall), word] for wall in STOREY_WALLS for word in wind_cells()),
+                  ([*words, bits(780.0)] for words in chain(rows_at_cell_edges(), rows_of_holdings())))
+    return islice(chain(edges, random_rows_with_wind(Numbers(7))), count)
 
 
 def main():

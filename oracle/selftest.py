@@ -6,10 +6,11 @@
 from itertools import product
 from math import inf, nan, nextafter
 
-from cases import read_lines, read_rows
-from walls import (A, K, StoreyWall, beginning_pattern, buckling_length, cellar_load, check, check_line, check_row,
-                   greatest_height, lent, line_of, line_pattern, need, refused, row_of, schedule, span_reduced,
-                   storey_load, storey_resistance, taken, text, whole_number)
+from cases import read_lines, read_minimum_load_lines, read_minimum_load_rows, read_rows
+from walls import (A, K, StoreyWall, beginning_pattern, buckling_length, cellar_load, check, check_line,
+                   check_minimum_load, check_minimum_load_line, check_minimum_load_row, check_row, greatest_height, lent,
+                   line_of, line_pattern, minimum_load, need, refused, row_of, schedule, span_reduced, storey_load,
+                   storey_resistance, taken, text, whole_number)
 
 S, C = A._replace, K._replace
 
@@ -70,6 +71,20 @@ WORKED = [
     (C(e=2875), (19, 56614, 69000, 344722, 275722)),
     (C(e=2875, c=3750), (0, 37743, 69000, 344722, 275722)),
     (C(e=2875, c=2500), (0, 28307, 69000, 344722, 275722)),
+]
+
+# Document 02, #106: a record, the design wind, and the result.
+MINIMUM_LOADS = [
+    (A, 780, (0, 6062, 210000, 352425, 142425)),
+    (S(t=365, a=243), 780, (0, 4303, 210000, 526387, 316387)),
+    (S(G=6062), 780, (0, 6062, 134487, 352425, 217938)),
+    (S(G=6061), 780, (21, 6062, 134486, 352425, 217939)),
+    (S(G=6061, Q=400000), 780, (13, 19688, 568486, 352425, -216061)),
+    (S(t=200, a=102, h=600, G=27), 40, (0, 27, 126038, 240040, 114002)),
+    (S(t=200, a=102, h=600, G=27), 41, (21, 28, 126038, 240040, 114002)),
+    (S(a=100), 780, (10, 0, 0, 0, 0)),
+    (A, 1, (0, 8, 210000, 352425, 142425)), (A, 10000, (21, 77714, 210000, 352425, 142425)),
+    (A, 0, (2, 0, 0, 0, 0)), (A, 10001, (2, 0, 0, 0, 0)), (S(t=114, a=114), 0, (2, 0, 0, 0, 0)),
 ]
 
 # Document 02, #103: G, Q, N for q up to 3000, and N above 3000 and for a cellar wall.
@@ -179,6 +194,21 @@ def documents():
         agree('a line with too few or too many numbers', check_line(line_of(A)[:-6] + more), refused(1))
 
 
+def minimum_loads():
+    # W=780, h=2625
+    agree('minimum load for a=175', minimum_load(A, 780), 6062)
+    agree('minimum load for a=243', minimum_load(S(t=365, a=243), 780), 4303)
+    for wall, W, result in MINIMUM_LOADS:
+        agree(f'minimum load of {line_of(wall)}, W={W}', check_minimum_load(wall, W), result)
+        agree(f'minimum load of the line {line_of(wall)}, W={W}', check_minimum_load_line(line_of(wall), W), result)
+        agree(f'minimum load of the row of {line_of(wall)}, W={W}', check_minimum_load_row(row_of(wall), float(W)), result)
+    for line in (line_of(K), line_of(C(t=199)), b'S 175', b''):
+        for W in (0, 780):
+            agree(f'minimum load of {line}, W={W}', check_minimum_load_line(line, W), refused(1))
+    for cell in (779.5, -780.0, nextafter(780, 0), inf, nan, -0.0):
+        agree(f'minimum load with a cell {cell}', check_minimum_load_row(row_of(A), cell), refused(2))
+
+
 def bytes_taken():
     for line, figure in TAKEN:
         agree(f'bytes taken of {line}', taken(line), figure)
@@ -213,12 +243,17 @@ def callers():
         agree(f'bytes taken of {line}', taken(line), figure)
     for cells, result in read_rows():
         agree(f'row {cells}', check_row(cells), result)
+    for line, W, result in read_minimum_load_lines():
+        agree(f'minimum load of {line}, W={W}', check_minimum_load_line(line, W), result)
+    for cells, wind, result in read_minimum_load_rows():
+        agree(f'minimum load of row {cells}, W={wind}', check_minimum_load_row(cells, wind), result)
     for wall in records():
         agree(f'{line_of(wall)} stands in callers/cases.txt', line_of(wall) in lines, True)
 
 
 if __name__ == '__main__':
     documents()
+    minimum_loads()
     bytes_taken()
     program()
     rows()

@@ -341,6 +341,42 @@ def check_line(line):
     return refused(1) if wall is None else check(wall)
 
 
+# ---- Document 02, #106: the minimum load in the top storey
+
+WIND_RANGE = (1, 10000)
+
+
+def minimum_load(wall, W):
+    """The need: 9Wh²/(160(300a − h)), rounded up."""
+    return ceil(Fraction(9 * W * wall.h**2, 160 * (300 * wall.a - wall.h)))
+
+
+def check_minimum_load(wall, W):
+    """The result of a storey record with the design wind W. "A W out of range is refusal 2 in that refusal's place"; the
+    ordinary check's "refusal is passed on as it is"; 21 comes last. Accepted and 21 carry the need."""
+    low, high = WIND_RANGE
+    if not low <= W <= high:
+        return refused(2)
+    ordinary = check_storey(wall)
+    if ordinary.refusal:
+        return ordinary
+    required = minimum_load(wall, W)
+    return filled(21 if wall.G < required else 0, required, ordinary.load, ordinary.resistance)
+
+
+def storey_alone(line):
+    """The record of an `S` line; None, refusal 1, also for a `C` line."""
+    wall = read_line(line)
+    return wall if isinstance(wall, StoreyWall) else None
+
+
+def check_minimum_load_line(line, W):
+    wall = storey_alone(line)
+    return refused(1) if wall is None else check_minimum_load(wall, W)
+
+
+# ---- The text of a result
+
 def text(result):
     """Five numbers, one space between, a minus sign where negative, then byte 10."""
     return b'%d %d %d %d %d\n' % result
@@ -382,3 +418,9 @@ def check_row(cells):
     refusal 2 where a cell is no whole number."""
     numbers = [whole_number(cell) for cell in cells]
     return refused(2) if None in numbers else check_storey(StoreyWall(*numbers))
+
+
+def check_minimum_load_row(cells, wind):
+    """The result of a row with the design wind, a cell like the others."""
+    *numbers, W = [whole_number(cell) for cell in (*cells, wind)]
+    return refused(2) if None in (*numbers, W) else check_minimum_load(StoreyWall(*numbers), W)

@@ -255,6 +255,28 @@ fn check_storey(numbers: &[u64; STOREY_NUMBERS]) -> CheckResult {
     filled(if load > resistance { 13 } else { 0 }, e, load, resistance)
 }
 
+/// The check of the minimum load in the top storey.
+#[inline(always)]
+fn check_minimum_load(numbers: &[u64; STOREY_NUMBERS], design_wind: u64) -> CheckResult {
+    if !within(design_wind, 1, 10_000) {
+        return refused(2);
+    }
+    let ordinary = check_storey(numbers);
+    if ordinary.refusal != 0 {
+        return ordinary;
+    }
+    let [_, _, h, _, _, _, _, _, a, _, _, dead, ..] = *numbers;
+    // a is over 100 in what is accepted, and h at most 20000, so 300a is above h. The numerator
+    // stays below 2^46.
+    let need = (9 * design_wind * h * h).div_ceil(160 * (300 * a - h));
+    filled(
+        if dead < need { 21 } else { 0 },
+        need,
+        ordinary.load,
+        ordinary.resistance,
+    )
+}
+
 #[inline(always)]
 fn cellar_in_range(numbers: &[u64; CELLAR_NUMBERS]) -> bool {
     let [t, h, e, c, y, f, bonded, dead, imposed, ground] = *numbers;
@@ -424,6 +446,29 @@ fn row_result(row: &Row) -> CheckResult {
     row_numbers(row).map_or(refused(2), |numbers| check_storey(&numbers))
 }
 
+/// This check has no cellar walls.
+#[inline(always)]
+fn minimum_load_line_result(line: &[u8], design_wind: u64) -> CheckResult {
+    if line.first() != Some(&b'S') {
+        return refused(1);
+    }
+    match read_numbers(line) {
+        Ok((numbers, at)) if at == line.len() => check_minimum_load(&numbers, design_wind),
+        _ => refused(1),
+    }
+}
+
+#[inline(always)]
+fn minimum_load_row_result(row: &Row, wind_cell: f64) -> CheckResult {
+    let design_wind = wind_cell as u64;
+    match row_numbers(row) {
+        Some(numbers) if design_wind as f64 == wind_cell => {
+            check_minimum_load(&numbers, design_wind)
+        }
+        _ => refused(2),
+    }
+}
+
 #[inline(never)]
 pub fn check_line(line: &[u8]) -> CheckResult {
     line_result(line)
@@ -447,6 +492,26 @@ pub fn check_row(row: &Row) -> CheckResult {
 #[inline(never)]
 pub fn check_row_into(row: &Row, out: &mut [u8]) -> CheckResult {
     into(out, || row_result(row))
+}
+
+#[inline(never)]
+pub fn minimum_load_line(line: &[u8], wind: u64) -> CheckResult {
+    minimum_load_line_result(line, wind)
+}
+
+#[inline(never)]
+pub fn minimum_load_line_into(line: &[u8], wind: u64, out: &mut [u8]) -> CheckResult {
+    into(out, || minimum_load_line_result(line, wind))
+}
+
+#[inline(never)]
+pub fn minimum_load_row(row: &Row, wind: f64) -> CheckResult {
+    minimum_load_row_result(row, wind)
+}
+
+#[inline(never)]
+pub fn minimum_load_row_into(row: &Row, wind: f64, out: &mut [u8]) -> CheckResult {
+    into(out, || minimum_load_row_result(row, wind))
 }
 
 /// Output that is gathered into pieces.

@@ -1,6 +1,6 @@
 //! The wall check in plain Rust, without proofs, to compare speed with: `simple` as one would first
 //! write it, `fast` as fast as reading byte by byte can be made. Each has the whole program and functions for one
-//! line and one row.
+//! line and one row, also of the minimum load in the top storey.
 
 pub mod fast;
 pub mod simple;

@@ -332,6 +332,29 @@ impl StoreyWall {
             refusal => refused(refusal),
         }
     }
+
+    /// The dead load that the wall needs in the top storey, 9Wh²/(160(300a - h)).
+    fn minimum_load(&self, design_wind: u64) -> u64 {
+        let moment = 9 * design_wind * self.height * self.height;
+        moment.div_ceil(160 * (300 * self.bearing - self.height))
+    }
+
+    fn check_minimum_load(&self, design_wind: u64) -> CheckResult {
+        if !(1..=10_000).contains(&design_wind) {
+            return refused(2);
+        }
+        let ordinary = self.check();
+        if ordinary.refusal != 0 {
+            return ordinary;
+        }
+        let need = self.minimum_load(design_wind);
+        filled(
+            if self.dead < need { 21 } else { 0 },
+            need,
+            ordinary.load,
+            ordinary.resistance,
+        )
+    }
 }
 
 impl CellarWall {
@@ -477,6 +500,38 @@ pub fn check_row_into(row: &Row, out: &mut [u8]) -> CheckResult {
         return refused(20);
     }
     into(check_row(row), out)
+}
+
+#[inline(never)]
+pub fn minimum_load_line(line: &[u8], wind: u64) -> CheckResult {
+    match read_line(line) {
+        Some(Wall::Storey(wall)) => wall.check_minimum_load(wind),
+        _ => refused(1),
+    }
+}
+
+#[inline(never)]
+pub fn minimum_load_line_into(line: &[u8], wind: u64, out: &mut [u8]) -> CheckResult {
+    if out.len() < SHORTEST_BUFFER {
+        return refused(20);
+    }
+    into(minimum_load_line(line, wind), out)
+}
+
+#[inline(never)]
+pub fn minimum_load_row(row: &Row, wind: f64) -> CheckResult {
+    match (row_wall(row), whole_number(wind)) {
+        (Some(wall), Some(wind)) => wall.check_minimum_load(wind),
+        _ => refused(2),
+    }
+}
+
+#[inline(never)]
+pub fn minimum_load_row_into(row: &Row, wind: f64, out: &mut [u8]) -> CheckResult {
+    if out.len() < SHORTEST_BUFFER {
+        return refused(20);
+    }
+    into(minimum_load_row(row, wind), out)
 }
 
 /// The schedule program.

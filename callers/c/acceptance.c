@@ -1,8 +1,9 @@
 /* Runs the acceptance cases against the library: each line, each storey record as a worksheet row too, and each row,
- * alone and into lent buffers of several lengths; of each line also the count of bytes taken.
+ * alone and into lent buffers of several lengths; of each line also the count of bytes taken. The same of the minimum
+ * load in the top storey.
  *
  *     gcc -std=c11 -Wall -Wextra -I include callers/c/acceptance.c libwallcheck.a -o acceptance
- *     ./acceptance callers/cases.txt callers/rows.txt
+ *     ./acceptance callers/cases.txt callers/rows.txt callers/minimum_load_lines.txt callers/minimum_load_rows.txt
  */
 #include <stdio.h>
 #include <stdlib.h>
@@ -10,7 +11,7 @@
 
 #include "wallcheck.h"
 
-enum { EDITION = 105, CELLS = 19 };
+enum { EDITION = 106, CELLS = 19 };
 
 _Static_assert(sizeof(wallcheck_result) == 40, "five numbers of eight bytes");
 _Static_assert(sizeof(wallcheck_reading) == 48, "a result and the count");
@@ -138,6 +139,55 @@ static void run_row_case(const char *row, const char *columns)
     run_row(row, cells_of(row), result_of(columns));
 }
 
+static void run_minimum_load_line(const char *line, const uint8_t *bytes, size_t len, uint64_t wind,
+                                  wallcheck_result expected)
+{
+    report("minimum load of a line", line, same(wallcheck_minimum_load_line(bytes, len, wind), expected));
+    for (int i = 0; i < OUT_LENGTHS; i++) {
+        struct lent lent;
+        wallcheck_result back = lend(&lent, out_lengths[i], expected);
+        wallcheck_result got = wallcheck_minimum_load_line_into(bytes, len, wind, lent.bytes + GUARD, out_lengths[i]);
+        report("minimum load of a line into a buffer", line, same(got, back) && as_lent(&lent));
+    }
+}
+
+static void run_minimum_load_row(const char *line, wallcheck_cells cells, double wind, wallcheck_result expected)
+{
+    report("minimum load of a row", line, same(wallcheck_minimum_load_row(cells, wind), expected));
+    for (int i = 0; i < OUT_LENGTHS; i++) {
+        struct lent lent;
+        wallcheck_result back = lend(&lent, out_lengths[i], expected);
+        wallcheck_result got = wallcheck_minimum_load_row_into(cells, wind, lent.bytes + GUARD, out_lengths[i]);
+        report("minimum load of a row into a buffer", line, same(got, back) && as_lent(&lent));
+    }
+}
+
+/* The result behind the column of the design wind. */
+static wallcheck_result result_behind_wind(const char *line, const char *columns)
+{
+    const char *tab = strchr(columns, '\t');
+    if (tab == NULL) {
+        fprintf(stderr, "c: a column is missing: %s\n", line);
+        exit(1);
+    }
+    return result_of(tab + 1);
+}
+
+/* Runs a line with its design wind, and its row if it is of the form `S`. */
+static void run_minimum_load_line_case(const char *line, const char *columns)
+{
+    uint64_t wind = strtoull(columns, NULL, 10);
+    wallcheck_result expected = result_behind_wind(line, columns);
+    run_minimum_load_line(line, (const uint8_t *)line, strlen(line), wind, expected);
+    if (expected.refusal != 1)
+        run_minimum_load_row(line, cells_of(line + 1), (double)wind, expected);
+}
+
+static void run_minimum_load_row_case(const char *row, const char *columns)
+{
+    run_minimum_load_row(row, cells_of(row), strtod(columns, NULL), result_behind_wind(row, columns));
+}
+
 /* A null pointer with length 0, as line and as buffer. */
 static void run_null(void)
 {
@@ -146,6 +196,11 @@ static void run_null(void)
     run_line("null", NULL, 0, no_line, 0);
     report("line into a buffer", "null, buffer null", same(wallcheck_line_into(NULL, 0, NULL, 0), no_buffer));
     report("row into a buffer", "buffer null", same(wallcheck_row_into(cells, NULL, 0), no_buffer));
+    run_minimum_load_line("null", NULL, 0, 780, no_line);
+    report("minimum load of a line into a buffer", "null, buffer null",
+           same(wallcheck_minimum_load_line_into(NULL, 0, 780, NULL, 0), no_buffer));
+    report("minimum load of a row into a buffer", "buffer null",
+           same(wallcheck_minimum_load_row_into(cells, 780, NULL, 0), no_buffer));
 }
 
 /* Runs each case of a file: what stands before the first tab, with the columns behind it. */
@@ -169,12 +224,14 @@ static void run_file(const char *path, void (*run)(const char *, const char *))
 
 int main(int argc, char **argv)
 {
-    if (argc != 3) {
-        fprintf(stderr, "usage: acceptance callers/cases.txt callers/rows.txt\n");
+    if (argc != 5) {
+        fprintf(stderr, "usage: acceptance cases.txt rows.txt minimum_load_lines.txt minimum_load_rows.txt\n");
         return 1;
     }
     run_file(argv[1], run_line_case);
     run_file(argv[2], run_row_case);
+    run_file(argv[3], run_minimum_load_line_case);
+    run_file(argv[4], run_minimum_load_row_case);
     run_null();
     report("edition", "", wallcheck_edition() == EDITION);
     if (different > 0) {

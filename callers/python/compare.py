@@ -1,9 +1,10 @@
 """Compares the shared library with the oracle: acceptance cases, lines and the bytes taken of them, rows, lent buffers,
-and rows with lines.
+and rows with lines; lines and rows of the minimum load.
 
-    python3 callers/python/compare.py libwallcheck.so [LINES ROWS RECORDS]
+    python3 callers/python/compare.py libwallcheck.so [LINES ROWS RECORDS MINIMUM]
 
-Without numbers 200000 lines, 200000 rows and 100000 records are compared.
+Without numbers 200000 lines, 200000 rows and 100000 records are compared, and 120000 lines and as many rows of the minimum
+load.
 """
 
 import ctypes
@@ -16,9 +17,9 @@ sys.path.insert(0, str(Path(__file__).resolve().parent.parent.parent / 'oracle')
 
 import generate
 import walls
-from cases import read_lines, read_rows
+from cases import read_lines, read_minimum_load_lines, read_minimum_load_rows, read_rows
 
-EDITION = 105
+EDITION = 106
 CELLS = ('usage thickness height length held distance support span bearing strength bonded dead imposed floorload '
          'building storeys otherspan calciumsilicate wind').split()
 GUARD = bytes(range(0xA0, 0xB0))
@@ -48,6 +49,11 @@ class Library:
         self.line_into = self.entry(library.wallcheck_line_into, line + out)
         self.row = self.entry(library.wallcheck_row, [Cells])
         self.row_into = self.entry(library.wallcheck_row_into, [Cells] + out)
+        self.minimum_load_line = self.entry(library.wallcheck_minimum_load_line, line + [ctypes.c_uint64])
+        self.minimum_load_line_into = self.entry(library.wallcheck_minimum_load_line_into,
+                                                 line + [ctypes.c_uint64] + out)
+        self.minimum_load_row = self.entry(library.wallcheck_minimum_load_row, [Cells, ctypes.c_double])
+        self.minimum_load_row_into = self.entry(library.wallcheck_minimum_load_row_into, [Cells, ctypes.c_double] + out)
 
     @staticmethod
     def entry(function, argument_types, result_type=Result):
@@ -81,8 +87,13 @@ def cells_of(words):
     return Cells.from_buffer_copy(struct.pack('<19Q', *words))
 
 
+def values_of(words):
+    """The values of the cells with these bits."""
+    return struct.unpack(f'<{len(words)}d', struct.pack(f'<{len(words)}Q', *words))
+
+
 def row_result(words):
-    return walls.check_row(struct.unpack('<19d', struct.pack('<19Q', *words)))
+    return walls.check_row(values_of(words))
 
 
 def lend(entry, arguments, length):
@@ -109,6 +120,17 @@ def compare_cases(library, comparison):
         compared += 1
     comparison.equal('edition', library.edition(), EDITION)
     return compared + 1
+
+
+def compare_minimum_load_cases(library, comparison):
+    compared = 0
+    for line, wind, expected in read_minimum_load_lines():
+        comparison.equal((line, wind), numbers_of(library.minimum_load_line(line, len(line), wind)), expected)
+        compared += 1
+    for cells, wind, expected in read_minimum_load_rows():
+        comparison.equal((cells, wind), numbers_of(library.minimum_load_row(Cells(*cells), wind)), expected)
+        compared += 1
+    return compared
 
 
 def compare_lines(library, comparison, count):
@@ -143,6 +165,27 @@ def compare_rows(library, comparison, count):
     return compared
 
 
+def compare_minimum_load_lines(library, comparison, count):
+    compared = 0
+    for line, wind in generate.lines_with_wind(count):
+        arguments, expected = (line, len(line), wind), walls.check_minimum_load_line(line, wind)
+        comparison.equal((line, wind), numbers_of(library.minimum_load_line(*arguments)), expected)
+        comparison.equal((line, wind), lend(library.minimum_load_line_into, arguments, 64), lent(expected, 64))
+        compared += 1
+    return compared
+
+
+def compare_minimum_load_rows(library, comparison, count):
+    compared = 0
+    for words in generate.rows_with_wind(count):
+        *cells, wind = values_of(words)
+        arguments, expected = (cells_of(words[:-1]), wind), walls.check_minimum_load_row(cells, wind)
+        comparison.equal(words, numbers_of(library.minimum_load_row(*arguments)), expected)
+        comparison.equal(words, lend(library.minimum_load_row_into, arguments, 64), lent(expected, 64))
+        compared += 1
+    return compared
+
+
 def compare_rows_with_lines(library, comparison, count):
     compared = 0
     for wall in generate.storey_records(count):
@@ -171,15 +214,34 @@ def compare_buffers(library, comparison):
     return compared + 3
 
 
+def compare_minimum_load_buffers(library, comparison):
+    """Each length from 0 to 128, for each case."""
+    compared = 0
+    for length in range(129):
+        for line, wind, expected in read_minimum_load_lines():
+            got = lend(library.minimum_load_line_into, (line, len(line), wind), length)
+            comparison.equal((line, wind), got, lent(walls.Result(*expected), length))
+            compared += 1
+        for cells, wind, expected in read_minimum_load_rows():
+            got = lend(library.minimum_load_row_into, (Cells(*cells), wind), length)
+            comparison.equal((cells, wind), got, lent(walls.Result(*expected), length))
+            compared += 1
+    return compared
+
+
 def main():
-    if len(sys.argv) not in (2, 5):
+    if len(sys.argv) not in (2, 6):
         sys.exit(__doc__)
-    lines, rows, records = map(int, sys.argv[2:] or (200000, 200000, 100000))
+    lines, rows, records, minimum = map(int, sys.argv[2:] or (200000, 200000, 100000, 120000))
     library, comparison = Library(str(Path(sys.argv[1]).resolve())), Comparison()
-    print('python:', compare_cases(library, comparison), 'cases,', compare_buffers(library, comparison), 'buffers,',
+    cases = compare_cases(library, comparison) + compare_minimum_load_cases(library, comparison)
+    buffers = compare_buffers(library, comparison) + compare_minimum_load_buffers(library, comparison)
+    print('python:', cases, 'cases,', buffers, 'buffers,',
           compare_lines(library, comparison, lines), 'lines,', compare_near_lines(library, comparison),
           'lines near to A and K,', compare_rows(library, comparison, rows), 'rows,',
-          compare_rows_with_lines(library, comparison, records), 'rows with their lines:',
+          compare_rows_with_lines(library, comparison, records), 'rows with their lines;',
+          compare_minimum_load_lines(library, comparison, minimum), 'lines and',
+          compare_minimum_load_rows(library, comparison, minimum), 'rows of the minimum load:',
           comparison.different, 'differences')
     sys.exit(1 if comparison.different else 0)
 

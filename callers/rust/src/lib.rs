@@ -86,6 +86,21 @@ pub mod raw {
         ) -> CheckResult;
         pub fn wallcheck_row(cells: Cells) -> CheckResult;
         pub fn wallcheck_row_into(cells: Cells, out: *mut u8, out_len: usize) -> CheckResult;
+        pub fn wallcheck_minimum_load_line(line: *const u8, len: usize, wind: u64) -> CheckResult;
+        pub fn wallcheck_minimum_load_line_into(
+            line: *const u8,
+            len: usize,
+            wind: u64,
+            out: *mut u8,
+            out_len: usize,
+        ) -> CheckResult;
+        pub fn wallcheck_minimum_load_row(cells: Cells, wind: f64) -> CheckResult;
+        pub fn wallcheck_minimum_load_row_into(
+            cells: Cells,
+            wind: f64,
+            out: *mut u8,
+            out_len: usize,
+        ) -> CheckResult;
     }
 }
 
@@ -115,4 +130,29 @@ pub fn check_row(cells: Cells) -> CheckResult {
 
 pub fn check_row_into(cells: Cells, out: &mut [u8]) -> CheckResult {
     unsafe { raw::wallcheck_row_into(cells, out.as_mut_ptr(), out.len()) }
+}
+
+/// The minimum load in the top storey, with the design wind load in N/m².
+pub fn minimum_load_line(line: &[u8], wind: u64) -> CheckResult {
+    unsafe { raw::wallcheck_minimum_load_line(line.as_ptr(), line.len(), wind) }
+}
+
+pub fn minimum_load_line_into(line: &[u8], wind: u64, out: &mut [u8]) -> CheckResult {
+    unsafe {
+        raw::wallcheck_minimum_load_line_into(
+            line.as_ptr(),
+            line.len(),
+            wind,
+            out.as_mut_ptr(),
+            out.len(),
+        )
+    }
+}
+
+pub fn minimum_load_row(cells: Cells, wind: f64) -> CheckResult {
+    unsafe { raw::wallcheck_minimum_load_row(cells, wind) }
+}
+
+pub fn minimum_load_row_into(cells: Cells, wind: f64, out: &mut [u8]) -> CheckResult {
+    unsafe { raw::wallcheck_minimum_load_row_into(cells, wind, out.as_mut_ptr(), out.len()) }
 }

@@ -8,7 +8,7 @@ use borrow.Author.Tests.{ltb-true}
 use Rattle.std.specs.Prelude.{get_or, Ok, Err}
 use lib.Dec.{ltb}
 use Rattle.basis.specs.declared.Refusal.{Refusal}
-use Rattle.basis.specs.declared.Refusal.TheVariants.{NotALine, OutOfRange, WallTooThin, AreaTooSmall, UnfitForUse, WallTooHigh, FloorLoadTooGreat, BuildingTooHigh, SpanTooLong, BearingTooShallow, StrengthTooLow, WallTooSlender, LoadAboveResistance, CellarWallTooThin, CellarWallTooHigh, FillTooHigh, GroundLoadTooGreat, CellarLoadAboveResistance, DeadLoadBelowNeed, BufferTooShort}
+use Rattle.basis.specs.declared.Refusal.TheVariants.{NotALine, OutOfRange, WallTooThin, AreaTooSmall, UnfitForUse, WallTooHigh, FloorLoadTooGreat, BuildingTooHigh, SpanTooLong, BearingTooShallow, StrengthTooLow, WallTooSlender, LoadAboveResistance, CellarWallTooThin, CellarWallTooHigh, FillTooHigh, GroundLoadTooGreat, CellarLoadAboveResistance, DeadLoadBelowNeed, BufferTooShort, DeadLoadBelowMinimum}
 use Rattle.basis.specs.Refusal.{number_of, first_or, first_of, NoneApplies}
 use Rattle.basis.specs.Check.{every_number}
 use Rattle.basis.proofs.Choice.{cond_cases, and_left, and_right, Implies, implies_false}
@@ -115,6 +115,7 @@ refusals =
     ∷ CellarLoadAboveResistance
     ∷ DeadLoadBelowNeed
     ∷ BufferTooShort
+    ∷ DeadLoadBelowMinimum
     ∷ []
 
 refusal_of : ℕ → Refusal
@@ -142,6 +143,7 @@ found_again GroundLoadTooGreat = refl
 found_again CellarLoadAboveResistance = refl
 found_again DeadLoadBelowNeed = refl
 found_again BufferTooShort = refl
+found_again DeadLoadBelowMinimum = refl
 
 pub number_of_one : (r s : Refusal) → number_of r ≡ number_of s → r ≡ s
 number_of_one r s same = sym (found_again r) ∙ ap refusal_of same ∙ found_again s

@@ -1,9 +1,9 @@
 -- "The first that applies is given": refusals are a list of number and test, in document 01's order.
 use Rattle.std.specs.Prelude.{ℕ, Bool, false, cond, List, [], ◌∷◌, ◌≡◌, Result, Ok, Err}
 use Rattle.basis.specs.declared.Refusal.{Refusal}
-use Rattle.basis.specs.declared.Refusal.TheVariants.{NotALine, OutOfRange, WallTooThin, AreaTooSmall, UnfitForUse, WallTooHigh, FloorLoadTooGreat, BuildingTooHigh, SpanTooLong, BearingTooShallow, StrengthTooLow, WallTooSlender, LoadAboveResistance, CellarWallTooThin, CellarWallTooHigh, FillTooHigh, GroundLoadTooGreat, CellarLoadAboveResistance, DeadLoadBelowNeed, BufferTooShort}
+use Rattle.basis.specs.declared.Refusal.TheVariants.{NotALine, OutOfRange, WallTooThin, AreaTooSmall, UnfitForUse, WallTooHigh, FloorLoadTooGreat, BuildingTooHigh, SpanTooLong, BearingTooShallow, StrengthTooLow, WallTooSlender, LoadAboveResistance, CellarWallTooThin, CellarWallTooHigh, FillTooHigh, GroundLoadTooGreat, CellarLoadAboveResistance, DeadLoadBelowNeed, BufferTooShort, DeadLoadBelowMinimum}
 
--- Document 01's table: the number of each refusal.
+-- The number of each refusal: document 01's table, then 21 of document 02, #106.
 abbrev pub number_of : Refusal → ℕ
 number_of NotALine = 1
 number_of OutOfRange = 2
@@ -25,6 +25,7 @@ number_of GroundLoadTooGreat = 17
 number_of CellarLoadAboveResistance = 18
 number_of DeadLoadBelowNeed = 19
 number_of BufferTooShort = 20
+number_of DeadLoadBelowMinimum = 21
 
 -- What the code answers, with the number of the refusal in its place.
 abbrev pub numbered : {A : Type 0} → Result A Refusal → Result A ℕ

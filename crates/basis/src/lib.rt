@@ -7,7 +7,7 @@ ghost use Rattle.basis.specs.Load.{rounded_load};
 ghost use Rattle.basis.specs.Refusal.{number_of, verdict_number};
 ghost use Rattle.basis.specs.Result.{refused_with, filled_with};
 
-// Why a record, a line or a buffer is refused, with the numbers of document 01's table.
+// Why a record, a line or a buffer is refused, with the numbers of document 01's table and, from 21 on, of document 02.
 #[derive(Clone, Copy, Debug, PartialEq, Eq)]
 pub enum Refusal {
     NotALine = 1,
@@ -30,6 +30,7 @@ pub enum Refusal {
     CellarLoadAboveResistance = 18,
     DeadLoadBelowNeed = 19,
     BufferTooShort = 20,
+    DeadLoadBelowMinimum = 21,
 }
 
 impl Refusal {
@@ -53,7 +54,7 @@ impl From<Refusal> for u64 {
 #[repr(C)]
 #[derive(Clone, Copy, Debug, PartialEq, Eq)]
 pub struct CheckResult {
-    // Document 01's number of the refusal; 0 is accepted.
+    // The number of the refusal; 0 is accepted.
     pub refusal: u64,
     // E, the buckling length in tenths of a mm; for a cellar wall the need, the required dead load in N/m.
     pub second: u64,

@@ -3,12 +3,14 @@
 
 ghost use Rattle.std.specs.Prelude.{◌≡◌};
 ghost use Rattle.wallcheck.specs.Entry.{line_result, counted_result, cells_result, lent, edition};
+ghost use Rattle.wallcheck.specs.MinimumLoad.{minimum_load_line, minimum_load_cells};
 
 use basis::CheckResult;
+use wallcheck::storey_checks::MinimumLoad;
 use wallcheck::{Checked, CountedResult};
 use worksheet::cells::Cells;
 
-const EDITION: u64 = 105;
+const EDITION: u64 = 106;
 
 // Which rules a result is computed by. Offices file it with their results.
 #[unsafe(no_mangle)]
@@ -51,4 +53,42 @@ pub extern "C" fn wallcheck_row_into(cells: Cells, out: &mut [u8]) -> CheckResul
     ensures { record { result = result; buffer = out.new } ≡ lent out.old (cells_result cells) }
 {
     cells.check_into(out)
+}
+
+// Document 02, #106: with the design wind load in N/m².
+
+#[unsafe(no_mangle)]
+pub extern "C" fn wallcheck_minimum_load_line(line: &[u8], wind: u64) -> CheckResult
+    ensures { result ≡ minimum_load_line line.now wind }
+{
+    MinimumLoad(line, wind).check()
+}
+
+#[unsafe(no_mangle)]
+pub extern "C" fn wallcheck_minimum_load_line_into(
+    line: &[u8],
+    wind: u64,
+    out: &mut [u8],
+) -> CheckResult
+    ensures { record { result = result; buffer = out.new } ≡ lent out.old (minimum_load_line line.now wind) }
+{
+    MinimumLoad(line, wind).check_into(out)
+}
+
+#[unsafe(no_mangle)]
+pub extern "C" fn wallcheck_minimum_load_row(cells: Cells, wind: f64) -> CheckResult
+    ensures { result ≡ minimum_load_cells cells wind }
+{
+    MinimumLoad(cells, wind).check()
+}
+
+#[unsafe(no_mangle)]
+pub extern "C" fn wallcheck_minimum_load_row_into(
+    cells: Cells,
+    wind: f64,
+    out: &mut [u8],
+) -> CheckResult
+    ensures { record { result = result; buffer = out.new } ≡ lent out.old (minimum_load_cells cells wind) }
+{
+    MinimumLoad(cells, wind).check_into(out)
 }

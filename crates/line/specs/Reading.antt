@@ -44,7 +44,7 @@ pub record ReadFrom (state : State) (old : Cursor) (reading : Option Wall) (new 
   pub answers : reading ≡ answer (run (rest old) state)
   pub takes : new.taken ≡ old.taken + taken_from (rest old) state
 
--- The result of a reading. None is refusal 1, "not a line of this form"; a record has the result of its own check.
-abbrev pub reading_result : (Wall → CheckResult) → Option Wall → CheckResult
-reading_result check (Some wall) = check wall
+-- The result of a reading, by a check of the records that are read. None is refusal 1, "not a line of this form".
+abbrev pub reading_result : {A : Type 0} → (A → CheckResult) → Option A → CheckResult
+reading_result check (Some record·) = check record·
 reading_result check None = refused_with 1

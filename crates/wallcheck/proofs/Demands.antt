@@ -123,7 +123,7 @@ lent_long : (buffer : List ℕ) (result : CheckResult) → length (result_text r
 unfolding lent
 lent_long buffer result fits long = rw (le-ltb (length buffer) 64 long, overwrite_start buffer (result_text result) (le_trans fits long))
 
-written_to : (buffer : List ℕ) (result : CheckResult) → Below 1000000000 result → 64 ≤ length buffer → WrittenTo buffer result
+pub written_to : (buffer : List ℕ) (result : CheckResult) → Below 1000000000 result → 64 ≤ length buffer → WrittenTo buffer result
 written_to buffer result below long =
     let text = result_text result in
     let behind = drop (length text) buffer in

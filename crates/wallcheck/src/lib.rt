@@ -2,6 +2,8 @@
 // hands them on.
 #![tactic(auto)]
 
+pub mod storey_checks;
+
 ghost use Rattle.std.specs.Prelude.{◌≡◌};
 ghost use Rattle.basis.specs.declared.CheckResult.{CheckResult};
 ghost use Rattle.wallcheck.specs.Entry.{line_result, counted_result, row_result, cells_result, lent};

@@ -15,8 +15,8 @@ const LARGEST: u64 = 0x433f_ffff_ffff_ffff;
 // Stands for a cell that is no whole number; no range has it.
 const NO_NUMBER: u64 = 0xffff_ffff_ffff_ffff;
 
-// The number of a cell in a record.
-pub(crate) fn number(x: f64) -> u64
+// The number of a cell in a record, or beside one.
+pub fn number(x: f64) -> u64
     ensures { result ≡ cell_number x }
 {
     whole_number(x).unwrap_or(NO_NUMBER)

@@ -1,7 +1,7 @@
 // A worksheet row: the numbers of an `S` record as f64 cells, turned into the record.
 #![tactic(auto)]
 
-mod cell;
+pub mod cell;
 pub mod cells;
 
 ghost use Rattle.std.specs.Prelude.{◌≡◌};

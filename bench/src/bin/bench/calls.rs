@@ -5,6 +5,15 @@ use std::hint::black_box;
 use std::time::Instant;
 use wallcheck::Cells;
 
+/// The design wind of the timed calls, in N/m².
+const TIMED_WIND: u64 = 780;
+
+/// The design winds with which the calls are to agree: within the range and beside its bounds.
+const WINDS: [u64; 5] = [0, 1, 780, 10_000, 10_001];
+
+/// The same for the cells of rows, and a fraction.
+const WIND_CELLS: [f64; 6] = [0.0, 1.0, 780.0, 780.5, 10_000.0, 10_001.0];
+
 /// A kind of call with the time of one call, in nanoseconds, for each of the three.
 pub struct Times {
     pub name: &'static str,
@@ -44,6 +53,13 @@ mod rows {
     extern "C" {
         fn rows_check(cells: *const Cells) -> CheckResult;
         fn rows_check_into(cells: *const Cells, out: *mut u8, out_len: usize) -> CheckResult;
+        fn rows_minimum_load(cells: *const Cells, wind: f64) -> CheckResult;
+        fn rows_minimum_load_into(
+            cells: *const Cells,
+            wind: f64,
+            out: *mut u8,
+            out_len: usize,
+        ) -> CheckResult;
     }
 
     // Sound: the pointers and the length are those of references that live throughout the call.
@@ -54,6 +70,14 @@ mod rows {
 
     pub fn check_into(cells: &Cells, out: &mut [u8]) -> CheckResult {
         unsafe { rows_check_into(cells, out.as_mut_ptr(), out.len()) }
+    }
+
+    pub fn minimum_load(cells: &Cells, wind: f64) -> CheckResult {
+        unsafe { rows_minimum_load(cells, wind) }
+    }
+
+    pub fn minimum_load_into(cells: &Cells, wind: f64, out: &mut [u8]) -> CheckResult {
+        unsafe { rows_minimum_load_into(cells, wind, out.as_mut_ptr(), out.len()) }
     }
 }
 
@@ -91,10 +115,49 @@ fn agree_on_row(cells: &Cells, row: &Row) -> bool {
         && out[1] == out[2]
 }
 
+/// Whether the calls of the minimum load agree on a line, in the result and in the bytes of a lent
+/// buffer.
+fn agree_on_line_with_wind(line: &[u8], wind: u64) -> bool {
+    let mut out = [[0xA5; 64]; 3];
+    from_library(wallcheck::minimum_load_line_into(line, wind, &mut out[0]))
+        == fast::minimum_load_line_into(line, wind, &mut out[1])
+        && fast::minimum_load_line(line, wind)
+            == simple::minimum_load_line_into(line, wind, &mut out[2])
+        && from_library(wallcheck::minimum_load_line(line, wind))
+            == simple::minimum_load_line(line, wind)
+        && out[0] == out[1]
+        && out[1] == out[2]
+}
+
+/// The same for a row.
+fn agree_on_row_with_wind(cells: &Cells, row: &Row, wind: f64) -> bool {
+    let mut out = [[0xA5; 64]; 3];
+    from_library(rows::minimum_load_into(cells, wind, &mut out[0]))
+        == fast::minimum_load_row_into(row, wind, &mut out[1])
+        && fast::minimum_load_row(row, wind)
+            == simple::minimum_load_row_into(row, wind, &mut out[2])
+        && from_library(rows::minimum_load(cells, wind)) == simple::minimum_load_row(row, wind)
+        && out[0] == out[1]
+        && out[1] == out[2]
+}
+
+fn agree_with_winds(line: &[u8]) -> bool {
+    WINDS
+        .iter()
+        .all(|&wind| agree_on_line_with_wind(line, wind))
+        && row_of(line).is_none_or(|(cells, row)| {
+            WIND_CELLS
+                .iter()
+                .all(|&wind| agree_on_row_with_wind(&cells, &row, wind))
+        })
+}
+
 /// Whether the three agree on every line and row.
 pub fn agree(lines: &[&[u8]]) -> bool {
     lines.iter().all(|line| {
-        agree_on_line(line) && row_of(line).is_none_or(|(cells, row)| agree_on_row(&cells, &row))
+        agree_on_line(line)
+            && row_of(line).is_none_or(|(cells, row)| agree_on_row(&cells, &row))
+            && agree_with_winds(line)
     })
 }
 
@@ -140,8 +203,7 @@ fn time<T, A, B, C>(
     }
 }
 
-pub fn measure(passes: usize, lines: &[&[u8]]) -> Vec<Times> {
-    let rows: Vec<(Cells, Row)> = lines.iter().filter_map(|line| row_of(line)).collect();
+fn measure_lines(passes: usize, lines: &[&[u8]]) -> Vec<Times> {
     let mut out = [[0; 64]; 3];
     let [first, second, third] = &mut out;
     vec![
@@ -169,10 +231,17 @@ pub fn measure(passes: usize, lines: &[&[u8]]) -> Vec<Times> {
             |line| fast::check_line_into(line, second),
             |line| simple::check_line_into(line, third),
         ),
+    ]
+}
+
+fn measure_rows(passes: usize, rows: &[(Cells, Row)]) -> Vec<Times> {
+    let mut out = [[0; 64]; 3];
+    let [first, second, third] = &mut out;
+    vec![
         time(
             "row",
             passes,
-            &rows,
+            rows,
             |(cells, _)| rows::check(cells),
             |(_, row)| fast::check_row(row),
             |(_, row)| simple::check_row(row),
@@ -180,10 +249,70 @@ pub fn measure(passes: usize, lines: &[&[u8]]) -> Vec<Times> {
         time(
             "row into a buffer",
             passes,
-            &rows,
+            rows,
             |(cells, _)| rows::check_into(cells, first),
             |(_, row)| fast::check_row_into(row, second),
             |(_, row)| simple::check_row_into(row, third),
         ),
     ]
+}
+
+fn measure_minimum_load_lines(passes: usize, lines: &[&[u8]], wind: u64) -> Vec<Times> {
+    let mut out = [[0; 64]; 3];
+    let [first, second, third] = &mut out;
+    vec![
+        time(
+            "minimum load, line",
+            passes,
+            lines,
+            |line| wallcheck::minimum_load_line(line, wind),
+            |line| fast::minimum_load_line(line, wind),
+            |line| simple::minimum_load_line(line, wind),
+        ),
+        time(
+            "minimum load, line into a buffer",
+            passes,
+            lines,
+            |line| wallcheck::minimum_load_line_into(line, wind, first),
+            |line| fast::minimum_load_line_into(line, wind, second),
+            |line| simple::minimum_load_line_into(line, wind, third),
+        ),
+    ]
+}
+
+fn measure_minimum_load_rows(passes: usize, rows: &[(Cells, Row)], wind: f64) -> Vec<Times> {
+    let mut out = [[0; 64]; 3];
+    let [first, second, third] = &mut out;
+    vec![
+        time(
+            "minimum load, row",
+            passes,
+            rows,
+            |(cells, _)| rows::minimum_load(cells, wind),
+            |(_, row)| fast::minimum_load_row(row, wind),
+            |(_, row)| simple::minimum_load_row(row, wind),
+        ),
+        time(
+            "minimum load, row into a buffer",
+            passes,
+            rows,
+            |(cells, _)| rows::minimum_load_into(cells, wind, first),
+            |(_, row)| fast::minimum_load_row_into(row, wind, second),
+            |(_, row)| simple::minimum_load_row_into(row, wind, third),
+        ),
+    ]
+}
+
+pub fn measure(passes: usize, lines: &[&[u8]]) -> Vec<Times> {
+    let rows: Vec<(Cells, Row)> = lines.iter().filter_map(|line| row_of(line)).collect();
+    // The check of the minimum load refuses a cellar's line at its first byte: that would be timed.
+    let mut storey_lines = lines.to_vec();
+    storey_lines.retain(|line| line.starts_with(b"S"));
+    // Hidden, since the plain functions could else be compiled for this one wind.
+    let wind = black_box(TIMED_WIND);
+    let mut times = measure_lines(passes, lines);
+    times.extend(measure_rows(passes, &rows));
+    times.extend(measure_minimum_load_lines(passes, &storey_lines, wind));
+    times.extend(measure_minimum_load_rows(passes, &rows, wind as f64));
+    times
 }

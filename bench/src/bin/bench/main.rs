@@ -131,7 +131,7 @@ fn same_outputs(programs: &[Program], files: &Files, lines: usize) -> io::Result
 fn print_calls(calls: &[calls::Times]) {
     for times in calls {
         println!(
-            "  {:<18} library {:6.1} ns, fast {:6.1} ns, simple {:6.1} ns, \
+            "  {:<32} library {:6.1} ns, fast {:6.1} ns, simple {:6.1} ns, \
              library/fast {:.2}, library/simple {:.2}",
             times.name,
             times.library,

@@ -1,18 +1,22 @@
 //! Runs the acceptance cases against the library: each line, each storey record as a worksheet row too, and each row,
-//! alone and into lent buffers of several lengths; of each line also the count of bytes taken.
+//! alone and into lent buffers of several lengths; of each line also the count of bytes taken. The same of the minimum
+//! load in the top storey.
 //!
 //!     WALLCHECK_LIB_DIR=.. cargo run --release --bin acceptance
 
 use std::process::exit;
 use std::ptr::{null, null_mut};
 use wallcheck::{
-    check_line, check_line_into, check_line_taken, check_row, check_row_into, edition, raw, Cells,
+    check_line, check_line_into, check_line_taken, check_row, check_row_into, edition,
+    minimum_load_line, minimum_load_line_into, minimum_load_row, minimum_load_row_into, raw, Cells,
     CheckResult, Reading,
 };
 
 const LINES: &str = include_str!("../../../cases.txt");
 const ROWS: &str = include_str!("../../../rows.txt");
-const EDITION: u64 = 105;
+const MINIMUM_LOAD_LINES: &str = include_str!("../../../minimum_load_lines.txt");
+const MINIMUM_LOAD_ROWS: &str = include_str!("../../../minimum_load_rows.txt");
+const EDITION: u64 = 106;
 const OUT_LENGTHS: [usize; 4] = [0, 63, 64, 100];
 const FILL: u8 = 0xA5;
 
@@ -146,6 +150,49 @@ fn run_line_case(tally: &mut Tally, line: &str, reading: Reading) {
     }
 }
 
+fn run_minimum_load_row(
+    tally: &mut Tally,
+    row: &str,
+    cells: Cells,
+    wind: f64,
+    expected: CheckResult,
+) {
+    let result = minimum_load_row(cells, wind);
+    tally.count("minimum load of a row", row, result == expected);
+    let what = "minimum load of a row into a buffer";
+    tally.count_into(what, row, expected, |out| {
+        minimum_load_row_into(cells, wind, out)
+    });
+}
+
+fn run_minimum_load_line_case(tally: &mut Tally, line: &str, wind: u64, expected: CheckResult) {
+    let result = minimum_load_line(line.as_bytes(), wind);
+    tally.count("minimum load of a line", line, result == expected);
+    let what = "minimum load of a line into a buffer";
+    tally.count_into(what, line, expected, |out| {
+        minimum_load_line_into(line.as_bytes(), wind, out)
+    });
+    match line.strip_prefix("S ") {
+        Some(numbers) if expected.refusal != 1 => {
+            run_minimum_load_row(tally, line, cells_of(numbers), wind as f64, expected)
+        }
+        _ => (),
+    }
+}
+
+fn run_minimum_load(tally: &mut Tally) {
+    for (line, columns) in cases(MINIMUM_LOAD_LINES) {
+        let (wind, numbers) = columns.split_once('\t').expect("two columns");
+        let wind = wind.parse().expect("a design wind");
+        run_minimum_load_line_case(tally, line, wind, result_of(numbers));
+    }
+    for (row, columns) in cases(MINIMUM_LOAD_ROWS) {
+        let (wind, numbers) = columns.split_once('\t').expect("two columns");
+        let wind = wind.parse().expect("a cell");
+        run_minimum_load_row(tally, row, cells_of(row), wind, result_of(numbers));
+    }
+}
+
 /// A null pointer with length 0, as line and as buffer, which the header allows.
 fn run_null(tally: &mut Tally) {
     let line = unsafe { raw::wallcheck_line(null(), 0) };
@@ -167,6 +214,15 @@ fn run_null(tally: &mut Tally) {
     );
     let row = unsafe { raw::wallcheck_row_into(Cells::default(), null_mut(), 0) };
     tally.count("row into a buffer", "buffer null", row == refused(20));
+    let line = unsafe { raw::wallcheck_minimum_load_line(null(), 0, 780) };
+    tally.count("minimum load of a line", "null", line == refused(1));
+    let both = unsafe { raw::wallcheck_minimum_load_line_into(null(), 0, 780, null_mut(), 0) };
+    let what = "minimum load of a line into a buffer";
+    tally.count(what, "null, buffer null", both == refused(20));
+    let row =
+        unsafe { raw::wallcheck_minimum_load_row_into(Cells::default(), 780.0, null_mut(), 0) };
+    let what = "minimum load of a row into a buffer";
+    tally.count(what, "buffer null", row == refused(20));
 }
 
 fn main() {
@@ -177,6 +233,7 @@ fn main() {
     for (row, numbers) in cases(ROWS) {
         run_row(&mut tally, row, cells_of(row), result_of(numbers));
     }
+    run_minimum_load(&mut tally);
     run_null(&mut tally);
     tally.count("edition", "", edition() == EDITION);
     if tally.different > 0 {

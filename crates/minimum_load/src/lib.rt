@@ -1,0 +1,84 @@
+// The minimum load in the top storey: document 02, #106.
+#![tactic(auto)]
+
+ghost use Rattle.std.specs.Prelude.{◌≡◌, ◌≤◌};
+ghost use Rattle.basis.specs.Result.{Accepted};
+ghost use Rattle.basis.specs.Range.{within};
+ghost use Rattle.storey.specs.Check as StoreyCheck;
+ghost use Rattle.minimum_load.specs.MinimumLoad.{minimum_load};
+ghost use Rattle.minimum_load.specs.Check.{wind_range, check};
+
+use basis::{CheckResult, Refusal};
+use storey::StoreyWall;
+
+// An `S` record in the top storey of a building, and the wind on it.
+#[derive(Clone, Copy)]
+pub struct TopStoreyWall {
+    pub wall: StoreyWall,
+    // W, the design wind load in N/m²; the wind of the record is the characteristic one
+    pub designwind: u64,
+}
+
+impl TopStoreyWall {
+    const RANGE_GREATEST_WIND: u64 = 10000;
+    // 9Wh²/(160(300a - h))
+    const WIND_FACTOR: u64 = 9;
+
+    const BEARING_FACTOR: u64 = 300;
+
+    const DIVISOR: u64 = 160;
+
+    // Whether W is in its range.
+    fn wind_in_range(self) -> bool
+        ensures { result ≡ within (wind_range self.designwind) }
+    {
+        (1..=TopStoreyWall::RANGE_GREATEST_WIND).contains(&self.designwind)
+    }
+
+    // The result of any record with any W.
+    #[tactic(auto, using(crate::proofs::Check::wind_out_of_range, crate::proofs::Check::refusal_passed_on))]
+    pub fn check(self) -> CheckResult
+        ensures { result ≡ check self }
+    {
+        if !self.wind_in_range() {
+            return CheckResult::from(Refusal::OutOfRange);
+        }
+        let ordinary = self.wall.check();
+        if ordinary.refusal != 0 {
+            return ordinary;
+        }
+        let required = AcceptedWall { top: self }.minimum_load();
+        let verdict = Refusal::DeadLoadBelowMinimum.when(self.wall.dead < required);
+        CheckResult::reported(
+            verdict,
+            required,
+            ordinary.load as u32,
+            ordinary.resistance as u32,
+        )
+    }
+}
+
+// A wall that the ordinary check accepts, with W in its range.
+#[derive(Clone, Copy)]
+struct AcceptedWall {
+    top: TopStoreyWall,
+    ghost accepted: { Accepted (StoreyCheck.check top.wall) },
+    ghost wind_most: { top.designwind ≤ 10000 },
+}
+
+impl AcceptedWall {
+    #[tactic(auto, using(crate::proofs::MinimumLoad::minimum_load_steps), unfolding(crate::specs::MinimumLoad::minimum_load, crate::specs::MinimumLoad::exact_minimum_load))]
+    // The need: the dead load that the wall requires against the wind, in N/m.
+    fn minimum_load(self) -> u64
+        ensures { result ≡ minimum_load self.top }
+    {
+        let StoreyWall {
+            height,
+            bearing,
+            ..
+        } = self.top.wall;
+        let moment = TopStoreyWall::WIND_FACTOR * self.top.designwind * (height * height);
+        let lever = TopStoreyWall::BEARING_FACTOR * bearing - height;
+        basis::ceil_div(moment, TopStoreyWall::DIVISOR * lever)
+    }
+}

@@ -1,0 +1,67 @@
+-- Laws of the checks that take `S` records alone, over any such check with a number beside the record.
+use Rattle.std.proofs.Common.{Option, Some, None}
+use Prim.Native.Nat.{ℕ, ◌<◌, ◌^◌}
+use mathlib.Core.Bool.{Bool, true, false}
+use mathlib.Core.List.{List}
+use mathlib.Core.Path.{◌≡◌, ◌∙◌, refl, sym, ap, ap₂}
+use native.Mathlib.Omega.{arith}
+use Rattle.basis.specs.declared.CheckResult.{CheckResult}
+use Rattle.basis.specs.Range.{AllBelow}
+use Rattle.basis.specs.Result.{refused_with, Below}
+use Rattle.basis.proofs.Range.{AllBelow-mono}
+use Rattle.basis.proofs.Result.{refused_below}
+use Rattle.storey.specs.declared.StoreyWall.{StoreyWall}
+use Rattle.storey.specs.Record.{numbers}
+use Rattle.walls.specs.declared.Wall.{Wall}
+use Rattle.walls.specs.declared.Wall.TheVariants.{Storey, Cellar}
+use Rattle.line.specs.Grammar.{NineDigits, line_of}
+use Rattle.line.specs.Reading.{read_line}
+use Rattle.line.proofs.Claims.{reading_sound, reading_complete}
+use Rattle.worksheet.specs.Cell.{cell_bound, cell_number}
+use Rattle.worksheet.specs.Entry.{Entry, entries_wall, TurnIntoTheirRecord}
+use Rattle.worksheet.proofs.Number.{cell_is_its_value}
+use Rattle.wallcheck.specs.StoreyRecord.{storey_alone, read_storey, result_beside, RefusesOtherStoreyLines, ChecksStoreyRecords, IsTheLineBeside, RefusedOtherwiseBeside}
+
+module _ (check : StoreyWall → ℕ → CheckResult) where
+  pub checks_storey_records : ChecksStoreyRecords check
+  unfolding read_storey
+  checks_storey_records wall n nine = ap (λ (r : Option Wall). result_beside check (storey_alone r) n) (reading_complete (Storey wall) nine)
+
+  pub refuses_other_storey_lines : ((wall : StoreyWall) (n : ℕ) → (check wall n).refusal ≡ 1 → ⊥) → RefusesOtherStoreyLines check
+  unfolding read_storey
+  refuses_other_storey_lines never_1 line n = (
+    (λ one wall nine same.
+        never_1 wall n (ap (λ (r : CheckResult). r.refusal) (sym (checks_storey_records wall n nine) ∙ ap (λ (l : List ℕ). result_beside check (read_storey l) n) (sym same) ∙ one))),
+    (λ none. by_reading (read_line line) refl none),
+  )
+    where
+      by_reading : (r : Option Wall) → read_line line ≡ r → ((wall : StoreyWall) → NineDigits (numbers wall) → line ≡ line_of (Storey wall) → ⊥) →
+          result_beside check (storey_alone r) n ≡ refused_with 1
+      by_reading (Some (Storey wall)) is none = let sound = reading_sound line (Storey wall) is in absurd (none wall sound.1 sound.0)
+      by_reading (Some (Cellar wall)) is none = refl
+      by_reading None is none = refl
+
+  -- What turns into the record of its numbers, whether row or cells.
+  module _ (es : List Entry) (own : TurnIntoTheirRecord es) where
+    pub is_the_line_beside : IsTheLineBeside check es
+    is_the_line_beside wall n x nine small same whole =
+        ap₂ check ((own wall (AllBelow-mono (10 ^ 9) cell_bound (numbers wall) (omega arith) nine)).1 same) ((cell_is_its_value x n small).1 whole)
+        ∙ sym (checks_storey_records wall n nine)
+
+    pub refused_otherwise_beside : (in_range : StoreyWall → ℕ → Bool) →
+        ((wall : StoreyWall) (n : ℕ) → in_range wall n ≡ true → AllBelow 100000000 (numbers wall) × (n < cell_bound)) →
+        ((wall : StoreyWall) (n : ℕ) → in_range wall n ≡ false → check wall n ≡ refused_with 2) → RefusedOtherwiseBeside check in_range es
+    refused_otherwise_beside in_range small refused x none = by_range (in_range (entries_wall es) (cell_number x)) refl
+      where
+        by_range : (b : Bool) → in_range (entries_wall es) (cell_number x) ≡ b → check (entries_wall es) (cell_number x) ≡ refused_with 2
+        by_range true passed =
+            let w = entries_wall es in
+            let bounds = small w (cell_number x) passed in
+            absurd (none w (cell_number x) passed ((own w (AllBelow-mono 100000000 cell_bound (numbers w) (omega arith) bounds.0)).0 refl) ((cell_is_its_value x (cell_number x) bounds.1).0 refl))
+        by_range false failed = refused (entries_wall es) (cell_number x) failed
+
+  -- Every number of every result is bounded, where those of the check are.
+  pub beside_below : (bound : ℕ) → 1 < bound → ((wall : StoreyWall) (n : ℕ) → Below bound (check wall n)) →
+      (read : Option StoreyWall) (n : ℕ) → Below bound (result_beside check read n)
+  beside_below bound above below (Some wall) n = below wall n
+  beside_below bound above below None n = refused_below bound 1 above

@@ -1,0 +1,101 @@
+// Checks that take `S` records alone, with a number beside the record: document 02, #106.
+ghost use Rattle.std.specs.Prelude.{ℕ, ◌≡◌, Option, Some};
+ghost use Rattle.basis.specs.declared.CheckResult.{CheckResult};
+ghost use Rattle.storey.specs.declared.StoreyWall.{StoreyWall};
+ghost use Rattle.worksheet.specs.Cell.{cell_number};
+ghost use Rattle.worksheet.specs.Row.{row_wall};
+ghost use Rattle.worksheet.specs.Cells.{cells_wall};
+ghost use Rattle.wallcheck.specs.StoreyRecord.{read_storey, result_beside};
+ghost use Rattle.wallcheck.specs.MinimumLoad.{check};
+
+use crate::Checked;
+use basis::{CheckResult, Refusal};
+use minimum_load::TopStoreyWall;
+use storey::StoreyWall;
+use walls::Wall;
+use worksheet::cells::Cells;
+use worksheet::{Row, cell};
+
+// What an `S` record is read from.
+pub trait StoreyRecord: Copy {
+    ghost read_as: { Self → Option StoreyWall };
+
+    // None is refusal 1.
+    fn storey_wall(self) -> Option<StoreyWall>
+        ensures { result ≡ read_as self };
+}
+
+// A line, of any bytes. None where it is not of the form, or a `C` line.
+impl StoreyRecord for &[u8] {
+    ghost read_as = { λ line. read_storey line.now };
+
+    #[tactic(auto, unfolding(crate::specs::StoreyRecord::read_storey, line::specs::Reading::counted_reading))]
+    fn storey_wall(self) -> Option<StoreyWall> {
+        match line::read(self).reading {
+            Some(Wall::Storey(wall)) => Some(wall),
+            _ => None,
+        }
+    }
+}
+
+// A worksheet row, of any cells.
+impl StoreyRecord for Row {
+    ghost read_as = { λ row. Some (row_wall row) };
+
+    fn storey_wall(self) -> Option<StoreyWall> {
+        Some(StoreyWall::from(self))
+    }
+}
+
+// The cells of a worksheet row, held and c among them, of any content.
+impl StoreyRecord for Cells {
+    ghost read_as = { λ cells. Some (cells_wall cells) };
+
+    fn storey_wall(self) -> Option<StoreyWall> {
+        let wall = StoreyWall::from(self);
+        Some(wall)
+    }
+}
+
+// The number beside a record: as it is, or, beside a row, a cell like the others.
+pub trait Number: Copy {
+    ghost number_of: { Self → ℕ };
+
+    fn number(self) -> u64
+        ensures { result ≡ number_of self };
+}
+
+impl Number for u64 {
+    ghost number_of = { λ n. n };
+
+    fn number(self) -> u64 {
+        self
+    }
+}
+
+impl Number for f64 {
+    ghost number_of = { cell_number };
+
+    fn number(self) -> u64 {
+        cell::number(self)
+    }
+}
+
+// The minimum load in the top storey: what the `S` record is read from, and the design wind load W in N/m² beside it.
+#[derive(Clone, Copy)]
+pub struct MinimumLoad<R, W>(pub R, pub W);
+
+impl<R: StoreyRecord, W: Number> Checked for MinimumLoad<R, W> {
+    ghost result_of = { λ asked. result_beside check (R.read_as asked.0) (W.number_of asked.1) };
+
+    fn check(self) -> CheckResult {
+        let MinimumLoad(record, wind) = self;
+        match record.storey_wall() {
+            Some(wall) => {
+                let designwind = wind.number();
+                TopStoreyWall { wall, designwind }.check()
+            }
+            None => CheckResult::from(Refusal::NotALine),
+        }
+    }
+}
