@@ -46,5 +46,5 @@ pub record ReadFrom (state : State) (old : Cursor) (reading : Option Wall) (new 
 
 -- The result of a reading, by a check of the records that are read. None is refusal 1, "not a line of this form".
 abbrev pub reading_result : {A : Type 0} → (A → CheckResult) → Option A → CheckResult
-reading_result check (Some record·) = check record·
+reading_result check (Some found) = check found
 reading_result check None = refused_with 1

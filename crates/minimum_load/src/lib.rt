@@ -1,7 +1,7 @@
 // The minimum load in the top storey: document 02, #106.
 #![tactic(auto)]
 
-ghost use Rattle.std.specs.Prelude.{◌≡◌, ◌≤◌};
+ghost use Rattle.std.specs.Prelude.{true, ◌≡◌};
 ghost use Rattle.basis.specs.Result.{Accepted};
 ghost use Rattle.basis.specs.Range.{within};
 ghost use Rattle.storey.specs.Check as StoreyCheck;
@@ -47,28 +47,27 @@ impl TopStoreyWall {
         if ordinary.refusal != 0 {
             return ordinary;
         }
-        let required = AcceptedWall { top: self }.minimum_load();
-        let verdict = Refusal::DeadLoadBelowMinimum.when(self.wall.dead < required);
-        CheckResult::reported(
-            verdict,
-            required,
-            ordinary.load as u32,
-            ordinary.resistance as u32,
-        )
+        AcceptedWall {
+            top: self,
+            ordinary,
+        }
+        .reported()
     }
 }
 
-// A wall that the ordinary check accepts, with W in its range.
+// A wall that the ordinary check accepts, with the result of that check, and W in its range.
 #[derive(Clone, Copy)]
 struct AcceptedWall {
     top: TopStoreyWall,
-    ghost accepted: { Accepted (StoreyCheck.check top.wall) },
-    ghost wind_most: { top.designwind ≤ 10000 },
+    ordinary: CheckResult,
+    ghost ordinary_result: { ordinary ≡ StoreyCheck.check top.wall },
+    ghost accepted: { Accepted ordinary },
+    ghost wind_in_range: { within (wind_range top.designwind) ≡ true },
 }
 
 impl AcceptedWall {
-    #[tactic(auto, using(crate::proofs::MinimumLoad::minimum_load_steps), unfolding(crate::specs::MinimumLoad::minimum_load, crate::specs::MinimumLoad::exact_minimum_load))]
     // The need: the dead load that the wall requires against the wind, in N/m.
+    #[tactic(auto, using(crate::proofs::MinimumLoad::minimum_load_steps), unfolding(crate::specs::MinimumLoad::minimum_load, crate::specs::MinimumLoad::exact_minimum_load))]
     fn minimum_load(self) -> u64
         ensures { result ≡ minimum_load self.top }
     {
@@ -80,5 +79,16 @@ impl AcceptedWall {
         let moment = TopStoreyWall::WIND_FACTOR * self.top.designwind * (height * height);
         let lever = TopStoreyWall::BEARING_FACTOR * bearing - height;
         basis::ceil_div(moment, TopStoreyWall::DIVISOR * lever)
+    }
+
+    // The ordinary result with the need in the place of E: accepted, or refusal 21.
+    #[tactic(auto, using(crate::proofs::Check::need_with_ordinary))]
+    fn reported(self) -> CheckResult
+        ensures { result ≡ check self.top }
+    {
+        let required = self.minimum_load();
+        let verdict = Refusal::DeadLoadBelowMinimum.when(self.top.wall.dead < required);
+        let (load, resistance) = (self.ordinary.load as u32, self.ordinary.resistance as u32);
+        CheckResult::reported(verdict, required, load, resistance)
     }
 }
