@@ -79,7 +79,7 @@ pub extern "C" fn wallcheck_minimum_load_line_into(
 pub extern "C" fn wallcheck_minimum_load_row(cells: Cells, wind: f64) -> CheckResult
     ensures { result ≡ minimum_load_cells cells wind }
 {
-    MinimumLoad(cells, wind).check()
+    MinimumLoad(&cells, wind).check()
 }
 
 #[unsafe(no_mangle)]
@@ -90,5 +90,5 @@ pub extern "C" fn wallcheck_minimum_load_row_into(
 ) -> CheckResult
     ensures { record { result = result; buffer = out.new } ≡ lent out.old (minimum_load_cells cells wind) }
 {
-    MinimumLoad(cells, wind).check_into(out)
+    MinimumLoad(&cells, wind).check_into(out)
 }

@@ -16,7 +16,7 @@ use walls::Wall;
 use worksheet::cells::Cells;
 use worksheet::{Row, cell};
 
-// What an `S` record is read from.
+// What an `S` record is read from. It is lent: moved into `MinimumLoad`, the 152 bytes of a row would be copied twice more.
 pub trait StoreyRecord: Copy {
     ghost read_as: { Self → Option StoreyWall };
 
@@ -39,20 +39,20 @@ impl StoreyRecord for &[u8] {
 }
 
 // A worksheet row, of any cells.
-impl StoreyRecord for Row {
-    ghost read_as = { λ row. Some (row_wall row) };
+impl StoreyRecord for &Row {
+    ghost read_as = { λ row. Some (row_wall row.now) };
 
     fn storey_wall(self) -> Option<StoreyWall> {
-        Some(StoreyWall::from(self))
+        Some(StoreyWall::from(*self))
     }
 }
 
 // The cells of a worksheet row, held and c among them, of any content.
-impl StoreyRecord for Cells {
-    ghost read_as = { λ cells. Some (cells_wall cells) };
+impl StoreyRecord for &Cells {
+    ghost read_as = { λ cells. Some (cells_wall cells.now) };
 
     fn storey_wall(self) -> Option<StoreyWall> {
-        let wall = StoreyWall::from(self);
+        let wall = StoreyWall::from(*self);
         Some(wall)
     }
 }
