@@ -103,8 +103,8 @@ wallcheck_result wallcheck_row_into(wallcheck_cells cells, uint8_t *out, size_t 
  * `wind` is the design wind load in N/m2, a whole number, 1..10000; the wind in the record is the characteristic one and
  * does not enter here.
  *
- * The ordinary check comes first. Its refusal is returned as wallcheck_line or wallcheck_row returns it; `wind` out of
- * range is refusal 2 too, and a line that is not of the form S and 19 numbers, a cellar wall's among them, is refusal 1.
+ * A line that is not of the form S and 19 numbers, a cellar wall's among them, is refusal 1; `wind` out of range is
+ * refusal 2, in that refusal's place: before 3 to 13. Any other refusal of the ordinary check is returned as it is.
  * Where the ordinary check accepts, the result is accepted or refusal 21, its second number is the minimum load
  * 9 wind h^2 / (160 (300 a - h)), rounded up, and its other numbers are those of the ordinary check. */
 wallcheck_result wallcheck_minimum_load_line(const uint8_t *line, size_t len, uint64_t wind);
@@ -116,6 +116,7 @@ wallcheck_result wallcheck_minimum_load_line_into(const uint8_t *line, size_t le
 /* The same for a worksheet row; `wind` is a cell like the others. */
 wallcheck_result wallcheck_minimum_load_row(wallcheck_cells cells, double wind);
 
+/* The same, and the result as text in `out`, as in wallcheck_line_into. */
 wallcheck_result wallcheck_minimum_load_row_into(wallcheck_cells cells, double wind, uint8_t *out, size_t out_len);
 
 #ifdef __cplusplus

@@ -11,13 +11,13 @@ pub record Parts : Type 0 where
   pub limits : List (ℕ × Bool)
   -- the refusals that fill all five numbers: they compare what is reported
   pub measures : List (ℕ × Bool)
-  -- "E or for a cellar the need"
+  -- "E or for a cellar the need"; document 02, #106: "The second number of an accepted result is the need."
   pub second : ℕ
   -- N
   pub load : ℕ
   pub resistance : ℕ
 
--- Within the ranges and every limit: "Refusals 13, 18 and 19 fill all five", and so does an accepted record.
+-- Within the ranges and every limit: "Refusals 13, 18 and 19 fill all five", 21 of document 02 "as 19 does", and so does an accepted record.
 abbrev pub reported : Parts → CheckResult
 reported p = filled_with (first_of p.measures) p.second p.load p.resistance
 

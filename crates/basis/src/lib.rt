@@ -56,7 +56,7 @@ impl From<Refusal> for u64 {
 pub struct CheckResult {
     // The number of the refusal; 0 is accepted.
     pub refusal: u64,
-    // E, the buckling length in tenths of a mm; for a cellar wall the need, the required dead load in N/m.
+    // E, the buckling length in tenths of a mm; for a cellar wall, and in the check of the minimum load, the need, a dead load in N/m.
     pub second: u64,
     // N, the design load in N/m.
     pub load: u64,

@@ -17,8 +17,11 @@ use Rattle.walls.proofs.Comparison.{storey_comparison}
 use Rattle.walls.proofs.Computes.{computes}
 use Rattle.minimum_load.specs.MinimumLoad.{exact_minimum_load, minimum_load}
 use Rattle.minimum_load.specs.Check as Check
-use Rattle.minimum_load.specs.Comparison.{with_loads, loaded, BetweenAccepted, LighterStaysAccepted, LighterRefused}
+use Rattle.minimum_load.specs.Comparison.{with_loads, WithItsOwnLoads, loaded, BetweenAccepted, LighterStaysAccepted, LighterRefused}
 use Rattle.minimum_load.proofs.Check.{accepted_exactly}
+
+pub with_its_own_loads : WithItsOwnLoads
+with_its_own_loads wall = refl
 
 module _ (wall : StoreyWall) where
   -- The need does not look at the loads.

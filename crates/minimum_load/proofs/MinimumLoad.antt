@@ -15,7 +15,7 @@ use Rattle.storey.proofs.Claims as StoreyClaims
 use Rattle.storey.proofs.Range.{in_ranges}
 use Rattle.minimum_load.specs.declared.TopStoreyWall.{TopStoreyWall}
 use Rattle.minimum_load.specs.MinimumLoad.{exact_minimum_load, minimum_load}
-use Rattle.minimum_load.specs.Claims.{BearingAboveHeight, MinimumLoadRoundedUp}
+use Rattle.minimum_load.specs.Claims.{DivisorPositive, MinimumLoadRoundedUp}
 
 -- What passes 10 has a bearing above 100 mm.
 bearing_above : (w : StoreyWall) → bearing_too_shallow w ≡ false → 100 < w.bearing
@@ -35,12 +35,12 @@ module _ (w : StoreyWall) (accepted : Accepted (StoreyCheck.check w)) where
       let limits = ((StoreyClaims.accepted_exactly w).0 accepted).1 in
       bearing_above w limits.1.1.1.1.1.1.1.0
 
-pub bearing_above_height : BearingAboveHeight
-bearing_above_height w accepted = (bearing_least w accepted, omega (arith, bearing_least w accepted, height_most w accepted))
+pub divisor_positive : DivisorPositive
+divisor_positive w accepted = (bearing_least w accepted, omega (arith, bearing_least w accepted, height_most w accepted))
 
 exact_den : (w : TopStoreyWall) → Accepted (StoreyCheck.check w.wall) → 0 < (exact_minimum_load w).den
 unfolding exact_minimum_load
-exact_den w accepted = omega (arith, (bearing_above_height w.wall accepted).1)
+exact_den w accepted = omega (arith, (divisor_positive w.wall accepted).1)
 
 pub minimum_load_rounded_up : MinimumLoadRoundedUp
 unfolding minimum_load
@@ -51,15 +51,15 @@ minimum_load_rounded_up w accepted = ceil_rounds_up (exact_minimum_load w) (exac
 pub height_square_most : (h : ℕ) → h ≤ 20000 → h * h ≤ 400000000
 height_square_most h most = mul-le-mul {n₂ = 20000} {m₂ = 20000} most most
 
-pub moment_most : (W h : ℕ) → W ≤ 10000 → h ≤ 20000 → 9 * W * (h * h) ≤ 36000000000000
-moment_most W h wind height = mul-le-mul {n₂ = 90000} {m₂ = 400000000} (omega arith) (height_square_most h height)
+pub wind_part_most : (W h : ℕ) → W ≤ 10000 → h ≤ 20000 → 9 * W * (h * h) ≤ 36000000000000
+wind_part_most W h wind height = mul-le-mul {n₂ = 90000} {m₂ = 400000000} (omega arith) (height_square_most h height)
 
 -- What the code rests on.
-pub ruleset minimum_load_steps = (height_most, bearing_most, bearing_least, height_square_most, moment_most)
+pub ruleset minimum_load_steps = (height_most, bearing_most, bearing_least, height_square_most, wind_part_most)
 
 -- W is at most 10000, h at most 20000, and 300a - h at least 10300.
 pub minimum_load_most : (w : TopStoreyWall) → Accepted (StoreyCheck.check w.wall) → w.designwind ≤ 10000 → minimum_load w ≤ 22000000
 unfolding minimum_load exact_minimum_load
 minimum_load_most w accepted wind =
     ceil_least (exact_minimum_load w) 22000000 (exact_den w accepted)
-    (omega (arith, moment_most w.designwind w.wall.height wind (height_most w.wall accepted), bearing_least w.wall accepted, height_most w.wall accepted))
+    (omega (arith, wind_part_most w.designwind w.wall.height wind (height_most w.wall accepted), bearing_least w.wall accepted, height_most w.wall accepted))

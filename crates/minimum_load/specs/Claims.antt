@@ -12,10 +12,10 @@ use Rattle.minimum_load.specs.MinimumLoad.{exact_minimum_load, minimum_load}
 use Rattle.minimum_load.specs.Check.{wind_range, check}
 
 -- "Behind the ordinary check a is above 100, so 300a is always above h."
-abbrev pub BearingAboveHeight : Type 0
-BearingAboveHeight = (w : StoreyWall) → Accepted (StoreyCheck.check w) → (100 < w.bearing) × (w.height < 300 * w.bearing)
+abbrev pub DivisorPositive : Type 0
+DivisorPositive = (w : StoreyWall) → Accepted (StoreyCheck.check w) → (100 < w.bearing) × (w.height < 300 * w.bearing)
 
--- So the need is the exact value rounded up.
+-- So the divisor is above 0, and the need is the exact value rounded up.
 abbrev pub MinimumLoadRoundedUp : Type 0
 MinimumLoadRoundedUp = (w : TopStoreyWall) → Accepted (StoreyCheck.check w.wall) → LeastAtOrAbove (minimum_load w) (exact_minimum_load w)
 

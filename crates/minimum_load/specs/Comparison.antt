@@ -13,7 +13,11 @@ use Rattle.minimum_load.specs.Check.{check}
 abbrev pub with_loads : StoreyWall → (G Q : ℕ) → StoreyWall
 with_loads wall G Q = with_imposed (with_dead wall G) Q
 
--- The same with the design wind W.
+-- Every record is one with loads, its own. So two records that differ only in G and Q are one record with two pairs of loads.
+abbrev pub WithItsOwnLoads : Type 0
+WithItsOwnLoads = (wall : StoreyWall) → with_loads wall wall.dead wall.imposed ≡ wall
+
+-- The record with the loads G and Q, and the design wind W.
 abbrev pub loaded : StoreyWall → (W G Q : ℕ) → TopStoreyWall
 loaded wall W G Q = record { wall = with_loads wall G Q; designwind = W }
 

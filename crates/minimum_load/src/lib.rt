@@ -20,7 +20,7 @@ pub struct TopStoreyWall {
 }
 
 impl TopStoreyWall {
-    const RANGE_GREATEST_WIND: u64 = 10000;
+    const RANGE_GREATEST_DESIGN_WIND: u64 = 10000;
     // 9Wh²/(160(300a - h))
     const WIND_FACTOR: u64 = 9;
 
@@ -32,7 +32,7 @@ impl TopStoreyWall {
     fn wind_in_range(self) -> bool
         ensures { result ≡ within (wind_range self.designwind) }
     {
-        (1..=TopStoreyWall::RANGE_GREATEST_WIND).contains(&self.designwind)
+        (1..=TopStoreyWall::RANGE_GREATEST_DESIGN_WIND).contains(&self.designwind)
     }
 
     // The result of any record with any W.
@@ -76,9 +76,9 @@ impl AcceptedWall {
             bearing,
             ..
         } = self.top.wall;
-        let moment = TopStoreyWall::WIND_FACTOR * self.top.designwind * (height * height);
-        let lever = TopStoreyWall::BEARING_FACTOR * bearing - height;
-        basis::ceil_div(moment, TopStoreyWall::DIVISOR * lever)
+        let wind_part = TopStoreyWall::WIND_FACTOR * self.top.designwind * (height * height);
+        let bearing_part = TopStoreyWall::BEARING_FACTOR * bearing - height;
+        basis::ceil_div(wind_part, TopStoreyWall::DIVISOR * bearing_part)
     }
 
     // The ordinary result with the need in the place of E: accepted, or refusal 21.

@@ -39,10 +39,10 @@ use Rattle.wallcheck.specs.MinimumLoad.{
   MinimumLoadLines,
 }
 use Rattle.wallcheck.proofs.Demands.{written_to}
-use Rattle.wallcheck.proofs.StoreyRecord.{checks_storey_records, refuses_other_storey_lines, is_the_line_beside, refused_otherwise_beside, beside_below}
+use Rattle.wallcheck.proofs.StoreyRecord.{checks_storey_records, refuses_all_but_storey_lines, is_the_line_beside, refused_otherwise_beside, beside_below}
 
 pub minimum_load_not_a_line : MinimumLoadNotALine
-minimum_load_not_a_line = refuses_other_storey_lines check (λ wall W. Check.never_refusal_1 (record { wall = wall; designwind = W }))
+minimum_load_not_a_line = refuses_all_but_storey_lines check (λ wall W. Check.never_refusal_1 (record { wall = wall; designwind = W }))
 
 pub minimum_load_line_of_record : MinimumLoadLineOfRecord
 minimum_load_line_of_record = checks_storey_records check

@@ -1,5 +1,5 @@
 -- Laws of the checks that take `S` records alone, over any such check with a number beside the record.
-use Rattle.std.proofs.Common.{Option, Some, None}
+use Rattle.std.proofs.Common.{Option, Some, None, Float}
 use Prim.Native.Nat.{ℕ, ◌<◌, ◌^◌}
 use mathlib.Core.Bool.{Bool, true, false}
 use mathlib.Core.List.{List}
@@ -20,16 +20,24 @@ use Rattle.line.proofs.Claims.{reading_sound, reading_complete}
 use Rattle.worksheet.specs.Cell.{cell_bound, cell_number}
 use Rattle.worksheet.specs.Entry.{Entry, entries_wall, TurnIntoTheirRecord}
 use Rattle.worksheet.proofs.Number.{cell_is_its_value}
-use Rattle.wallcheck.specs.StoreyRecord.{storey_alone, read_storey, result_beside, RefusesOtherStoreyLines, ChecksStoreyRecords, IsTheLineBeside, RefusedOtherwiseBeside}
+use Rattle.wallcheck.specs.StoreyRecord.{storey_alone, read_storey, result_beside, RefusesAllButStoreyLines, ChecksStoreyRecords, IsTheLineBeside, RefusedOtherwiseBeside}
 
 module _ (check : StoreyWall → ℕ → CheckResult) where
-  pub checks_storey_records : ChecksStoreyRecords check
+  -- The entries of the check, for a line and at what stands in the places of a record's numbers.
+
+  abbrev line_entry : List ℕ → ℕ → CheckResult
+  line_entry line n = result_beside check (read_storey line) n
+
+  abbrev cell_entry : List Entry → Float → CheckResult
+  cell_entry es x = check (entries_wall es) (cell_number x)
+
+  pub checks_storey_records : ChecksStoreyRecords check line_entry
   unfolding read_storey
   checks_storey_records wall n nine = ap (λ (r : Option Wall). result_beside check (storey_alone r) n) (reading_complete (Storey wall) nine)
 
-  pub refuses_other_storey_lines : ((wall : StoreyWall) (n : ℕ) → (check wall n).refusal ≡ 1 → ⊥) → RefusesOtherStoreyLines check
+  pub refuses_all_but_storey_lines : ((wall : StoreyWall) (n : ℕ) → (check wall n).refusal ≡ 1 → ⊥) → RefusesAllButStoreyLines line_entry
   unfolding read_storey
-  refuses_other_storey_lines never_1 line n = (
+  refuses_all_but_storey_lines never_1 line n = (
     (λ one wall nine same.
         never_1 wall n (ap (λ (r : CheckResult). r.refusal) (sym (checks_storey_records wall n nine) ∙ ap (λ (l : List ℕ). result_beside check (read_storey l) n) (sym same) ∙ one))),
     (λ none. by_reading (read_line line) refl none),
@@ -43,14 +51,14 @@ module _ (check : StoreyWall → ℕ → CheckResult) where
 
   -- What turns into the record of its numbers, whether row or cells.
   module _ (es : List Entry) (own : TurnIntoTheirRecord es) where
-    pub is_the_line_beside : IsTheLineBeside check es
+    pub is_the_line_beside : IsTheLineBeside line_entry es (cell_entry es)
     is_the_line_beside wall n x nine small same whole =
         ap₂ check ((own wall (AllBelow-mono (10 ^ 9) cell_bound (numbers wall) (omega arith) nine)).1 same) ((cell_is_its_value x n small).1 whole)
         ∙ sym (checks_storey_records wall n nine)
 
     pub refused_otherwise_beside : (in_range : StoreyWall → ℕ → Bool) →
         ((wall : StoreyWall) (n : ℕ) → in_range wall n ≡ true → AllBelow 100000000 (numbers wall) × (n < cell_bound)) →
-        ((wall : StoreyWall) (n : ℕ) → in_range wall n ≡ false → check wall n ≡ refused_with 2) → RefusedOtherwiseBeside check in_range es
+        ((wall : StoreyWall) (n : ℕ) → in_range wall n ≡ false → check wall n ≡ refused_with 2) → RefusedOtherwiseBeside in_range es (cell_entry es)
     refused_otherwise_beside in_range small refused x none = by_range (in_range (entries_wall es) (cell_number x)) refl
       where
         by_range : (b : Bool) → in_range (entries_wall es) (cell_number x) ≡ b → check (entries_wall es) (cell_number x) ≡ refused_with 2

@@ -14,7 +14,7 @@ use Rattle.worksheet.specs.Row.{entries, row_wall}
 use Rattle.worksheet.specs.declared.cells.Cells.{Cells}
 use Rattle.worksheet.specs.Cells.{cell_entries, cells_wall}
 use Rattle.wallcheck.specs.Demands.{WrittenTo}
-use Rattle.wallcheck.specs.StoreyRecord.{read_storey, result_beside, RefusesOtherStoreyLines, ChecksStoreyRecords, IsTheLineBeside, RefusedOtherwiseBeside}
+use Rattle.wallcheck.specs.StoreyRecord.{read_storey, result_beside, RefusesAllButStoreyLines, ChecksStoreyRecords, IsTheLineBeside, RefusedOtherwiseBeside}
 
 -- The result of a storey record with the design wind W, and the range test of both.
 abbrev pub check : StoreyWall → (W : ℕ) → CheckResult
@@ -37,22 +37,22 @@ minimum_load_cells cells W = result_beside check (Some (cells_wall cells)) (cell
 -- ---- what is claimed of them
 
 abbrev pub MinimumLoadNotALine : Type 0
-MinimumLoadNotALine = RefusesOtherStoreyLines check
+MinimumLoadNotALine = RefusesAllButStoreyLines minimum_load_line
 
 abbrev pub MinimumLoadLineOfRecord : Type 0
-MinimumLoadLineOfRecord = ChecksStoreyRecords check
+MinimumLoadLineOfRecord = ChecksStoreyRecords check minimum_load_line
 
 abbrev pub MinimumLoadRowIsLine : Type 0
-MinimumLoadRowIsLine = (row : Row) → IsTheLineBeside check (entries row)
+MinimumLoadRowIsLine = (row : Row) → IsTheLineBeside minimum_load_line (entries row) (minimum_load_row row)
 
 abbrev pub MinimumLoadCellsAreLine : Type 0
-MinimumLoadCellsAreLine = (cells : Cells) → IsTheLineBeside check (cell_entries cells)
+MinimumLoadCellsAreLine = (cells : Cells) → IsTheLineBeside minimum_load_line (cell_entries cells) (minimum_load_cells cells)
 
 abbrev pub MinimumLoadOtherRowsRefused : Type 0
-MinimumLoadOtherRowsRefused = (row : Row) → RefusedOtherwiseBeside check in_range (entries row)
+MinimumLoadOtherRowsRefused = (row : Row) → RefusedOtherwiseBeside in_range (entries row) (minimum_load_row row)
 
 abbrev pub MinimumLoadOtherCellsRefused : Type 0
-MinimumLoadOtherCellsRefused = (cells : Cells) → RefusedOtherwiseBeside check in_range (cell_entries cells)
+MinimumLoadOtherCellsRefused = (cells : Cells) → RefusedOtherwiseBeside in_range (cell_entries cells) (minimum_load_cells cells)
 
 -- What a lent buffer holds: the text of the result, which reads back; `ShortBuffer` of Demands is about any result.
 

@@ -1,5 +1,4 @@
--- Checks that take `S` records alone, with a number beside the record: what a record is read from, and what is claimed of every such check. It is given as a
--- function of record and number.
+-- Checks that take `S` records alone, with a number beside the record: what a line is read as, and what is claimed of the entries of every such check.
 use Rattle.std.specs.Prelude.{ℕ, ◌<◌, true, Bool, List, ◌↔◌, ◌≡◌, Float, Option, Some, None}
 use Rattle.basis.specs.declared.CheckResult.{CheckResult}
 use Rattle.basis.specs.Result.{refused_with}
@@ -9,8 +8,8 @@ use Rattle.walls.specs.declared.Wall.{Wall}
 use Rattle.walls.specs.declared.Wall.TheVariants.{Storey, Cellar}
 use Rattle.line.specs.Grammar.{NineDigits, line_of}
 use Rattle.line.specs.Reading.{read_line, reading_result}
-use Rattle.worksheet.specs.Cell.{cell_bound, IsWhole, cell_number}
-use Rattle.worksheet.specs.Entry.{Entry, HaveNumbers, entries_wall}
+use Rattle.worksheet.specs.Cell.{cell_bound, IsWhole}
+use Rattle.worksheet.specs.Entry.{Entry, HaveNumbers}
 
 -- Document 02, #106: "In this and every later check that takes `S` records alone, a `C` line is refusal 1."
 abbrev pub storey_alone : Option Wall → Option StoreyWall
@@ -22,34 +21,31 @@ storey_alone None = None
 unfoldable pub read_storey : List ℕ → Option StoreyWall
 read_storey line = storey_alone (read_line line)
 
--- The result of what was read, with the number beside it.
+-- The result of what was read, by a check of the record and the number beside it.
 abbrev pub result_beside : (StoreyWall → ℕ → CheckResult) → Option StoreyWall → ℕ → CheckResult
 result_beside check read n = reading_result (λ wall. check wall n) read
 
--- ---- of lines
+-- ---- of the entry for a line
 
 -- 1, exactly: "not a line of this form", or a `C` line. It is about the line, whatever the number beside it.
-abbrev pub RefusesOtherStoreyLines : (StoreyWall → ℕ → CheckResult) → Type 0
-RefusesOtherStoreyLines check =
+abbrev pub RefusesAllButStoreyLines : (List ℕ → ℕ → CheckResult) → Type 0
+RefusesAllButStoreyLines entry =
     (line : List ℕ) (n : ℕ) →
-    (result_beside check (read_storey line) n ≡ refused_with 1)
-    ↔ ((wall : StoreyWall) → NineDigits (numbers wall) → line ≡ line_of (Storey wall) → ⊥)
+    (entry line n ≡ refused_with 1) ↔ ((wall : StoreyWall) → NineDigits (numbers wall) → line ≡ line_of (Storey wall) → ⊥)
 
 -- A line of the form has the result of its record.
-abbrev pub ChecksStoreyRecords : (StoreyWall → ℕ → CheckResult) → Type 0
-ChecksStoreyRecords check =
-    (wall : StoreyWall) (n : ℕ) → NineDigits (numbers wall) → result_beside check (read_storey (line_of (Storey wall))) n ≡ check wall n
+abbrev pub ChecksStoreyRecords : (StoreyWall → ℕ → CheckResult) → (List ℕ → ℕ → CheckResult) → Type 0
+ChecksStoreyRecords check entry = (wall : StoreyWall) (n : ℕ) → NineDigits (numbers wall) → entry (line_of (Storey wall)) n ≡ check wall n
 
--- ---- of a row: what stands in the places of a record's numbers, and the number in a cell beside them
+-- ---- of the entry for a row, at what stands in the places of a record's numbers; the number beside it is a cell
 
 -- "Its result equals that of the line with the same numbers."
-abbrev pub IsTheLineBeside : (StoreyWall → ℕ → CheckResult) → List Entry → Type 0
-IsTheLineBeside check es =
+abbrev pub IsTheLineBeside : (List ℕ → ℕ → CheckResult) → List Entry → (Float → CheckResult) → Type 0
+IsTheLineBeside line_entry es entry =
     (wall : StoreyWall) (n : ℕ) (x : Float) → NineDigits (numbers wall) → n < cell_bound → HaveNumbers es wall → IsWhole x n →
-    check (entries_wall es) (cell_number x) ≡ result_beside check (read_storey (line_of (Storey wall))) n
+    entry x ≡ line_entry (line_of (Storey wall)) n
 
 -- "A cell out of range, with a fraction, an infinity or a NaN is refusal 2": where no record and number in range have the cells' numbers.
-abbrev pub RefusedOtherwiseBeside : (StoreyWall → ℕ → CheckResult) → (StoreyWall → ℕ → Bool) → List Entry → Type 0
-RefusedOtherwiseBeside check in_range es =
-    (x : Float) → ((wall : StoreyWall) (n : ℕ) → in_range wall n ≡ true → HaveNumbers es wall → IsWhole x n → ⊥) →
-    check (entries_wall es) (cell_number x) ≡ refused_with 2
+abbrev pub RefusedOtherwiseBeside : (StoreyWall → ℕ → Bool) → List Entry → (Float → CheckResult) → Type 0
+RefusedOtherwiseBeside in_range es entry =
+    (x : Float) → ((wall : StoreyWall) (n : ℕ) → in_range wall n ≡ true → HaveNumbers es wall → IsWhole x n → ⊥) → entry x ≡ refused_with 2

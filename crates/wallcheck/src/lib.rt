@@ -1,5 +1,5 @@
-// The public entries: a line or a worksheet row, each also into a lent buffer; a line also with the count of bytes taken. The C interface, c_interface,
-// hands them on.
+// The public entries: a line or a worksheet row, each also into a lent buffer; a line also with the count of bytes taken. Those of checks that take
+// `S` records alone stand in `storey_checks`. The C interface, c_interface, hands them on.
 #![tactic(auto)]
 
 pub mod storey_checks;

@@ -16,8 +16,8 @@ use walls::Wall;
 use worksheet::cells::Cells;
 use worksheet::{Row, cell};
 
-// What an `S` record is read from. It is lent: moved into `MinimumLoad`, the 152 bytes of a row would be copied twice more.
-pub trait StoreyRecord: Copy {
+// What an `S` record is read from. It is lent: moved into `MinimumLoad`, the cells of a row would be copied twice more.
+pub trait StoreyRecordSource: Copy {
     ghost read_as: { Self → Option StoreyWall };
 
     // None is refusal 1.
@@ -26,7 +26,7 @@ pub trait StoreyRecord: Copy {
 }
 
 // A line, of any bytes. None where it is not of the form, or a `C` line.
-impl StoreyRecord for &[u8] {
+impl StoreyRecordSource for &[u8] {
     ghost read_as = { λ line. read_storey line.now };
 
     #[tactic(auto, unfolding(crate::specs::StoreyRecord::read_storey, line::specs::Reading::counted_reading))]
@@ -39,7 +39,7 @@ impl StoreyRecord for &[u8] {
 }
 
 // A worksheet row, of any cells.
-impl StoreyRecord for &Row {
+impl StoreyRecordSource for &Row {
     ghost read_as = { λ row. Some (row_wall row.now) };
 
     fn storey_wall(self) -> Option<StoreyWall> {
@@ -48,7 +48,7 @@ impl StoreyRecord for &Row {
 }
 
 // The cells of a worksheet row, held and c among them, of any content.
-impl StoreyRecord for &Cells {
+impl StoreyRecordSource for &Cells {
     ghost read_as = { λ cells. Some (cells_wall cells.now) };
 
     fn storey_wall(self) -> Option<StoreyWall> {
@@ -59,14 +59,14 @@ impl StoreyRecord for &Cells {
 
 // The number beside a record: as it is, or, beside a row, a cell like the others.
 pub trait Number: Copy {
-    ghost number_of: { Self → ℕ };
+    ghost counts_as: { Self → ℕ };
 
     fn number(self) -> u64
-        ensures { result ≡ number_of self };
+        ensures { result ≡ counts_as self };
 }
 
 impl Number for u64 {
-    ghost number_of = { λ n. n };
+    ghost counts_as = { λ n. n };
 
     fn number(self) -> u64 {
         self
@@ -74,7 +74,7 @@ impl Number for u64 {
 }
 
 impl Number for f64 {
-    ghost number_of = { cell_number };
+    ghost counts_as = { cell_number };
 
     fn number(self) -> u64 {
         cell::number(self)
@@ -85,8 +85,8 @@ impl Number for f64 {
 #[derive(Clone, Copy)]
 pub struct MinimumLoad<R, W>(pub R, pub W);
 
-impl<R: StoreyRecord, W: Number> Checked for MinimumLoad<R, W> {
-    ghost result_of = { λ asked. result_beside check (R.read_as asked.0) (W.number_of asked.1) };
+impl<R: StoreyRecordSource, W: Number> Checked for MinimumLoad<R, W> {
+    ghost result_of = { λ asked. result_beside check (R.read_as asked.0) (W.counts_as asked.1) };
 
     fn check(self) -> CheckResult {
         let MinimumLoad(record, wind) = self;

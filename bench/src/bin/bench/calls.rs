@@ -305,7 +305,7 @@ fn measure_minimum_load_rows(passes: usize, rows: &[(Cells, Row)], wind: f64) ->
 
 pub fn measure(passes: usize, lines: &[&[u8]]) -> Vec<Times> {
     let rows: Vec<(Cells, Row)> = lines.iter().filter_map(|line| row_of(line)).collect();
-    // The check of the minimum load refuses a cellar's line at its first byte: that would be timed.
+    // A cellar's line is refusal 1 in this check, in `fast` at its first byte: so only storey lines are timed.
     let mut storey_lines = lines.to_vec();
     storey_lines.retain(|line| line.starts_with(b"S"));
     // Hidden, since the plain functions could else be compiled for this one wind.
