@@ -101,7 +101,7 @@ wallcheck_result wallcheck_row_into(wallcheck_cells cells, uint8_t *out, size_t 
 
 /* The minimum load in the top storey: whether the dead load of a storey wall reaches what it needs against the wind.
  * `wind` is the design wind load in N/m2, a whole number, 1..10000; the wind in the record is the characteristic one and
- * does not enter here.
+ * does not enter here. Load helps in this check: MANUAL.md says with which loads to call it.
  *
  * A line that is not of the form S and 19 numbers, a cellar wall's among them, is refusal 1; `wind` out of range is
  * refusal 2, in that refusal's place: before 3 to 13. Any other refusal of the ordinary check is returned as it is.

@@ -36,6 +36,8 @@ pub struct Cells {
 impl From<Cells> for StoreyWall {
     ghost from_gives = { λ cells wall. wall ≡ cells_wall cells };
 
+    // Inlined at each of its callers: a call would copy the record.
+    #[inline(always)]
     fn from(cells: Cells) -> StoreyWall {
         StoreyWall {
             usage: cell::number(cells.usage),
