@@ -27,7 +27,6 @@ pub struct CountedReading {
 
 // The numbers behind the letter and its space, left by the label at the first fault. Each byte is looked at once, as it is taken;
 // a wrong one is the last that is taken.
-#[inline(always)]
 fn read_numbers(bytes: &mut Cursor, kind: Kind) -> Option<Wall>
     ensures { ReadFrom (inside (kind_letter kind) [] 0 0) bytes.old result bytes.new }
 {
@@ -60,7 +59,6 @@ fn read_numbers(bytes: &mut Cursor, kind: Kind) -> Option<Wall>
 }
 
 // The letter, its space and the numbers.
-#[inline(always)]
 fn read_record(bytes: &mut Cursor) -> Option<Wall>
     ensures { ReadFrom start bytes.old result bytes.new }
 {
@@ -71,8 +69,7 @@ fn read_record(bytes: &mut Cursor) -> Option<Wall>
     read_numbers(bytes, kind)
 }
 
-// One pass, front to back, each byte looked at once at most. Inlined at each of its callers, with what it calls: a call would copy the record.
-#[inline(always)]
+// One pass, front to back, each byte looked at once at most.
 #[tactic(auto, unfolding(crate::specs::Reading::counted_reading, crate::specs::Reading::read_line, crate::specs::Reading::taken))]
 pub fn read(line: &[u8]) -> CountedReading
     ensures { result ≡ counted_reading line.now }
