@@ -2,18 +2,16 @@
 -- greater than the high end's (demand 3); its G reaches the need, which does not look at the loads, since it is no less than the low end's.
 use Prim.Native.Nat.{ℕ, ◌≤◌}
 use mathlib.Core.Bool.{true}
-use mathlib.Core.Logic.{inl}
 use mathlib.Core.Path.{◌≡◌, refl}
 use native.Mathlib.Omega.{arith}
 use native.Mathlib.Nat.{le_refl}
 use Rattle.basis.proofs.Range.{all_within_lem}
 use Rattle.storey.specs.declared.StoreyWall.{StoreyWall}
 use Rattle.storey.specs.Range.{ranges, in_range}
-use Rattle.storey.specs.Comparison.{NoWorse}
 use Rattle.storey.proofs.Claims as StoreyClaims
 use Rattle.storey.proofs.Range.{in_ranges}
 use Rattle.walls.specs.Examples.{example_a}
-use Rattle.walls.proofs.Comparison.{storey_comparison}
+use Rattle.walls.proofs.Comparison.{lighter_no_worse, storey_comparison}
 use Rattle.walls.proofs.Computes.{computes}
 use Rattle.minimum_load.specs.MinimumLoad.{exact_minimum_load, minimum_load}
 use Rattle.minimum_load.specs.Check as Check
@@ -38,23 +36,6 @@ module _ (wall : StoreyWall) where
       let all_high = in_ranges (with_loads wall G' Q') high in
       all_within_lem (ranges (with_loads wall dead imposed)) (omega arith)
 
-  -- A record with lighter loads is no worse.
-  lighter : (G' Q' dead imposed : ℕ) → dead ≤ G' → imposed ≤ Q' → NoWorse (with_loads wall G' Q') (with_loads wall dead imposed)
-  lighter G' Q' dead imposed dead_to imposed_to =
-      record {
-        dead = dead_to;
-        imposed = imposed_to;
-        floorload = le_refl _;
-        span = le_refl _;
-        building = le_refl _;
-        height = le_refl _;
-        strength = le_refl _;
-        bearing = le_refl _;
-        all_else = refl;
-        spans = inl refl;
-        three_sides = λ _ _. (refl, refl);
-      }
-
 pub between_accepted : BetweenAccepted
 between_accepted wall W G Q G' Q' dead imposed low high dead_from dead_to imposed_from imposed_to =
     let from = (accepted_exactly (loaded wall W G Q)).0 low in
@@ -65,7 +46,7 @@ between_accepted wall W G Q G' Q' dead imposed low high dead_from dead_to impose
     (accepted_exactly (loaded wall W dead imposed)).1 (
       from.0,
       (storey_comparison (with_loads wall G' Q') (with_loads wall dead imposed) passed_high passed
-          (lighter wall G' Q' dead imposed dead_to imposed_to) to.1).0,
+          (lighter_no_worse (with_loads wall G' Q') dead imposed wall.floorload dead_to imposed_to (le_refl _)) to.1).0,
       omega (arith, need_same wall W G Q dead imposed, from.2, dead_from),
     )
 
@@ -80,5 +61,5 @@ lighter_can_be_refused reading =
     omega (
       arith,
       reading (with_loads example_a 6062 90000) (with_loads example_a 6061 90000) 780 refl refl
-          (lighter example_a 6062 90000 6061 90000 (omega arith) (omega arith)) refl,
+          (lighter_no_worse (with_loads example_a 6062 90000) 6061 90000 2250 (omega arith) (omega arith) (omega arith)) refl,
     )

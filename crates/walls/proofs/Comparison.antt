@@ -15,7 +15,9 @@
 -- Cellar. Resistance, required load and limits do not look at G and Q. The load grows with both, so the high end bounds it by the resistance;
 -- the required load is reached by the low end's G, which is the least.
 use mathlib.Core.Bool.{true}
-use mathlib.Core.Path.{◌≡◌, ap}
+use Prim.Native.Nat.{ℕ, ◌≤◌}
+use mathlib.Core.Logic.{inl}
+use mathlib.Core.Path.{◌≡◌, refl, ap}
 use native.Mathlib.Nat.{le_trans}
 use native.Mathlib.Omega.{arith}
 use Rattle.basis.specs.Refusal.{NoneApplies}
@@ -25,6 +27,8 @@ use Rattle.storey.specs.declared.StoreyWall.{StoreyWall}
 use Rattle.storey.specs.Limits.{limits}
 use Rattle.storey.specs.Range.{in_range}
 use Rattle.storey.specs.Resistance.{resistance}
+use Rattle.storey.specs.Record.{with_dead, with_imposed, with_floor_load}
+use Rattle.storey.specs.Comparison.{NoWorse}
 use Rattle.storey.specs.Check.{parts, check}
 use Rattle.storey.proofs.Claims as StoreyClaims
 use Rattle.storey.proofs.Comparison as StoreyLaws
@@ -35,6 +39,24 @@ use Rattle.walls.specs.Comparison.{StoreyComparison, CellarComparison}
 -- The reported resistance of a record within the ranges and every limit.
 reported : (w : StoreyWall) → in_range w ≡ true → NoneApplies (limits w) → (check w).resistance ≡ resistance w
 reported w passed none = ap (λ (result : CheckResult). result.resistance) (reported_numbers (parts w) passed none)
+
+-- A record that differs in its loads alone, none of them greater, is no worse.
+pub lighter_no_worse : (w : StoreyWall) (G Q q : ℕ) → G ≤ w.dead → Q ≤ w.imposed → q ≤ w.floorload →
+    NoWorse w (with_floor_load (with_imposed (with_dead w G) Q) q)
+lighter_no_worse w G Q q dead imposed floorload =
+    record {
+      dead = dead;
+      imposed = imposed;
+      floorload = floorload;
+      span = omega arith;
+      building = omega arith;
+      height = omega arith;
+      strength = omega arith;
+      bearing = omega arith;
+      all_else = refl;
+      spans = inl refl;
+      three_sides = λ _ _. (refl, refl);
+    }
 
 pub storey_comparison : StoreyComparison
 storey_comparison first second passed passed' pair accepted =
