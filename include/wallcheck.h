@@ -77,6 +77,15 @@ typedef struct {
                              * silicate walls alone */
 } wallcheck_cells;
 
+/* What the functions of the archive return: 0 and a count; or refusal 23 or 24 and 0. */
+typedef struct {
+    uint64_t refusal; /* 0; 23 a block that is refused; 24 a text that cannot be stored */
+    uint64_t count;
+} wallcheck_archived;
+
+/* The length of an archive's block. */
+#define WALLCHECK_BLOCK_LEN 512
+
 /* The edition of the rules by which this library computes: a number to file with the results. 100 is the first edition;
  * later ones have greater numbers. */
 uint64_t wallcheck_edition(void);
@@ -118,6 +127,24 @@ wallcheck_result wallcheck_minimum_load_row(wallcheck_cells cells, double wind);
 
 /* The same, and the result as text in `out`, as in wallcheck_line_into. */
 wallcheck_result wallcheck_minimum_load_row_into(wallcheck_cells cells, double wind, uint8_t *out, size_t out_len);
+
+/* Archived schedules: lines, each ended by byte 10, in blocks of 512 bytes, so that one bad block costs its own lines
+ * alone. Bytes 0 and 1 of a block hold the number of bytes used, at most 508, low byte first; bytes 2 and 3 the sum of
+ * all other bytes of the block modulo 65536, low byte first; lines follow from byte 4, whole; the remainder is zero.
+ *
+ * How many blocks the lines of a text take, 0 for an empty text. Refusal 24: the text is not empty and does not end in
+ * byte 10, or has a line of more than 508 bytes with its end byte. */
+wallcheck_archived wallcheck_archive_count(const uint8_t *text, size_t len);
+
+/* Writes these blocks, the first from byte 0 of `out` on, the next from byte 512 on, and so forth, and returns their
+ * number. The bytes of `out` behind the last block stay as they are. Refusal 24 also where the blocks are more than the
+ * buffer holds; nothing is written then. `text` and `out` must not overlap. */
+wallcheck_archived wallcheck_archive_write(const uint8_t *text, size_t len, uint8_t *out, size_t out_len);
+
+/* How many bytes a block yields: its bytes from byte 4 on, whole lines. Refusal 23, and nothing is yielded: the length is
+ * not 512, or count, sum or remainder is wrong, or the used bytes do not end in byte 10. A block without lines, as one of
+ * 512 zeros, yields 0 bytes. */
+wallcheck_archived wallcheck_archive_read(const uint8_t *block, size_t len);
 
 #ifdef __cplusplus
 }
