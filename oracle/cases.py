@@ -1,12 +1,13 @@
-"""The acceptance cases, which all callers read: callers/cases.txt and callers/rows.txt, and those of the minimum load."""
+"""The acceptance cases, which all callers read: callers/cases.txt and callers/rows.txt, those of the minimum load and those
+of the archive."""
 
 from pathlib import Path
 
 CALLERS = Path(__file__).resolve().parent.parent / 'callers'
 
 
-def read(name, before=1):
-    """What stands in the first columns of each case, in one or in two, with the numbers of each column behind them."""
+def rows_of(name, before=1):
+    """What stands in the first columns of each case, in one or in two, with the columns behind them."""
     cases = {}
     for row in (CALLERS / name).read_bytes().split(b'\n'):
         if row and not row.startswith(b'#'):
@@ -14,8 +15,17 @@ def read(name, before=1):
             case = tuple(columns[:before])
             if case in cases:
                 raise ValueError(f'{case} stands twice in {name}')
-            cases[case] = [tuple(map(int, column.split())) for column in columns[before:]]
+            cases[case] = columns[before:]
     return cases
+
+
+def numbers_of(column):
+    return tuple(map(int, column.split()))
+
+
+def read(name, before=1):
+    """What stands in the first columns of each case, with the numbers of each column behind them."""
+    return {case: list(map(numbers_of, columns)) for case, columns in rows_of(name, before).items()}
 
 
 def cells_of(row):
@@ -51,3 +61,21 @@ def read_minimum_load_rows():
     """The 19 cells of each row, the cell of the design wind, and the result."""
     for (row, wind), (result,) in read('minimum_load_rows.txt', before=2).items():
         yield cells_of(row), float(wind), result
+
+
+def bytes_of(column):
+    """Pieces with a space between: hexadecimal digits, and where `*` and a number stand behind them, so many times."""
+    pieces = (piece.partition('*') for piece in column.decode().split())
+    return b''.join(bytes.fromhex(digits) * int(times or 1) for digits, _, times in pieces)
+
+
+def read_archive_texts():
+    """Each text with refusal and count, and the blocks that it takes."""
+    for (text,), (result, *blocks) in rows_of('archive_texts.txt').items():
+        yield bytes_of(text), numbers_of(result), list(map(bytes_of, blocks))
+
+
+def read_archive_blocks():
+    """Each block, or what is handed in for one, with refusal and count."""
+    for (block,), (result,) in rows_of('archive_blocks.txt').items():
+        yield bytes_of(block), numbers_of(result)

@@ -1,9 +1,28 @@
-"""Reads a schedule from standard input and prints what the schedule program must print for it.
+"""Reads the standard input of a program, and prints and tells on standard error what the program must for it; the status
+is 1 where something is told. Without a name the program is schedule.
 
     python3 oracle/generate.py lines 25000 | python3 oracle/expected.py
+    python3 oracle/expected.py pack <examples/terraced-house.txt >walls.archive
+    python3 oracle/expected.py unpack <walls.archive
 """
 
 import sys
+
+from archive import pack, unpack
 from walls import schedule
 
-sys.stdout.buffer.write(schedule(sys.stdin.buffer.read()))
+PROGRAMS = {'schedule': lambda stream: (schedule(stream), ''), 'pack': pack, 'unpack': unpack}
+
+
+def main():
+    name = sys.argv[1] if len(sys.argv) == 2 else 'schedule'
+    if len(sys.argv) > 2 or name not in PROGRAMS:
+        sys.exit(__doc__)
+    printed, told = PROGRAMS[name](sys.stdin.buffer.read())
+    sys.stdout.buffer.write(printed)
+    sys.stderr.write(told)
+    sys.exit(1 if told else 0)
+
+
+if __name__ == '__main__':
+    main()
