@@ -41,7 +41,8 @@ dist/libwallcheck.so: $(SOURCES) crates.txt include/wallcheck.h Makefile
 
 callers: lib
 	@$(CC) -std=c11 -O2 -Wall -Wextra -Werror -Iinclude callers/c/acceptance.c dist/libwallcheck.a -o $(BUILD)/acceptance
-	@$(BUILD)/acceptance $(addprefix callers/,cases.txt rows.txt minimum_load_lines.txt minimum_load_rows.txt)
+	@$(BUILD)/acceptance $(addprefix callers/,cases.txt rows.txt minimum_load_lines.txt minimum_load_rows.txt \
+		archive_texts.txt archive_blocks.txt)
 	@$(CARGO_ENV) cargo run --quiet --release --offline --manifest-path callers/rust/Cargo.toml --bin acceptance
 	@python3 callers/python/compare.py dist/libwallcheck.so
 	@test "$$(nm -D --defined-only dist/libwallcheck.so | awk '{print $$3}' | sort | tr '\n' ' ')" = "$(sort $(FUNCTIONS)) "

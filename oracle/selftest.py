@@ -1,4 +1,5 @@
-"""Compares walls.py with the figures of documents 01 and 02 and the worked examples, and the callers' cases with walls.py.
+"""Compares walls.py and archive.py with the figures of documents 01 and 02 and the worked examples, and the callers' cases
+with both.
 
     python3 oracle/selftest.py
 """
@@ -6,7 +7,10 @@
 from itertools import product
 from math import inf, nan, nextafter
 
-from cases import read_lines, read_minimum_load_lines, read_minimum_load_rows, read_rows
+import archive
+from archive_inputs import GOOD_BLOCKS, HALF_FILLED, with_byte
+from cases import (read_archive_blocks, read_archive_texts, read_lines, read_minimum_load_lines, read_minimum_load_rows,
+                   read_rows)
 from walls import (A, K, StoreyWall, beginning_pattern, buckling_length, cellar_load, check, check_line,
                    check_minimum_load, check_minimum_load_line, check_minimum_load_row, check_row, greatest_height, lent,
                    line_of, line_pattern, minimum_load, need, refused, row_of, schedule, span_reduced, storey_load,
@@ -138,6 +142,45 @@ INNER = {t: (2750, 3600, 3600, 3600, 3600, 3600) if t < 240 else (inf,) * 6 for 
 # Document 01's, for uses 2 to 4
 GENERAL = {t: (heights[0],) * 6 for t, heights in OUTER.items()}
 
+# Document 02, #107: a text and its blocks, of each the bytes used and the sum. S 175 and its end byte add up to 282.
+S_175 = b'S 175\n'
+ARCHIVES = [
+    (b'', []), (b'\n', [(1, 11)]), (S_175, [(6, 288)]), (S_175 * 2, [(12, 576)]),
+    (S_175 * 84, [(504, 23688 + 248 + 1)]), (S_175 * 85, [(504, 23688 + 248 + 1), (6, 288)]),
+    (b'S' * 507 + b'\n', [(508, 83 * 507 + 10 + 252 + 1)]), (b'\xff' * 507 + b'\n', [(508, 129548 - 65536)]),
+    (b'\n' * 508, [(508, 5080 + 252 + 1)]), (b'\n' * 509, [(508, 5080 + 252 + 1), (1, 11)]),
+    (b'\n' * 507 + b'\0\n', [(507, 5070 + 251 + 1), (2, 12)]),
+]
+BAD_TEXTS = [b'S', b'\0', b'\nS', S_175 + b'S 175', b'S' * 508 + b'\n', b'\n' + b'S' * 508 + b'\n\n', b'S' * 508]
+# The block of S 175, byte by byte: 6 used, the sum 288 = 1 * 256 + 32.
+BLOCK_OF_S_175 = bytes([6, 0, 32, 1, 83, 32, 49, 55, 53, 10]) + bytes(502)
+# The block of the longest line, of S: 508 = 1 * 256 + 252 used, the sum 42344 = 165 * 256 + 104.
+LONGEST_LINE = b'S' * 507 + b'\n'
+BLOCK_OF_LONGEST_LINE = bytes([252, 1, 104, 165]) + LONGEST_LINE
+BAD_BLOCKS = [
+    BLOCK_OF_S_175[:511], BLOCK_OF_S_175 + b'\0', b'', with_byte(BLOCK_OF_S_175, 2, 33), with_byte(BLOCK_OF_S_175, 8, 54),
+    bytes([5, 0, 31, 1]) + BLOCK_OF_S_175[4:], bytes([7, 0, 33, 1]) + BLOCK_OF_S_175[4:],
+    bytes([6, 0, 33, 1]) + BLOCK_OF_S_175[4:511] + b'\1', bytes([6, 0, 33, 1, 83, 32, 49, 55, 53, 11]) + bytes(502),
+    bytes([253, 1, 254, 0]) + bytes(508), bytes([255, 255, 254, 1]) + bytes(508),
+]
+
+# What pack and unpack print and tell.
+PACKED = [
+    (b'', b'', ''), (S_175, BLOCK_OF_S_175, ''), (S_175 + LONGEST_LINE, BLOCK_OF_S_175 + BLOCK_OF_LONGEST_LINE, ''),
+    (S_175 + b'S', BLOCK_OF_S_175, 'pack: refusal 24: line 2 has no end\n'),
+    (S_175 + b'S' * 507, BLOCK_OF_S_175, 'pack: refusal 24: line 2 has no end\n'),
+    (S_175 + b'S' * 508, BLOCK_OF_S_175, 'pack: refusal 24: line 2 is longer than 508 bytes with its end\n'),
+    (S_175 + b'S' * 508 + b'\n' + S_175, BLOCK_OF_S_175, 'pack: refusal 24: line 2 is longer than 508 bytes with its end\n'),
+    (b'S' * 508 + b'\nS', b'', 'pack: refusal 24: line 1 is longer than 508 bytes with its end\n'),
+]
+UNPACKED = [
+    (b'', b'', ''), (BLOCK_OF_S_175 + bytes(512) + BLOCK_OF_S_175, S_175 * 2, ''),
+    (BLOCK_OF_S_175 + b'\1' * 512 + BLOCK_OF_S_175[:511], S_175,
+     'unpack: refusal 23: block 1, from byte 512 on, is left out\n'
+     'unpack: refusal 23: block 2, from byte 1024 on, is left out\n'),
+    (b'\0', b'', 'unpack: refusal 23: block 0, from byte 0 on, is left out\n'),
+]
+
 count = 0
 
 
@@ -209,6 +252,39 @@ def minimum_loads():
         agree(f'minimum load with a cell {cell}', check_minimum_load_row(row_of(A), cell), refused(2))
 
 
+def archives():
+    for stored, blocks in ARCHIVES:
+        size = 512 * len(blocks)
+        told, buffer = archive.write(stored, b'.' * (size + 100))
+        fronts = [(block[0] + 256 * block[1], block[2] + 256 * block[3]) for block in archive.pieces(buffer[:size])]
+        agree(f'count of {stored[:20]}', archive.count(stored), (0, len(blocks)))
+        agree(f'used bytes and sums of {stored[:20]}', (told, fronts, buffer[size:]), ((0, len(blocks)), blocks, b'.' * 100))
+        agree(f'{stored[:20]} read back', archive.unpack(buffer[:size]), (stored, ''))
+        if blocks:
+            agree(f'{stored[:20]}, a byte too few', archive.write(stored, b'.' * (size - 1)), ((24, 0), b'.' * (size - 1)))
+    agree('the block of S 175', archive.write(S_175, b'.' * 512), ((0, 1), BLOCK_OF_S_175))
+    agree('the block of S 175, read', archive.read(BLOCK_OF_S_175), ((0, 6), S_175))
+    agree('512 zeros', archive.read(bytes(512)), ((0, 0), b''))
+    for bad in BAD_TEXTS:
+        agree(f'count of {bad[:20]}', archive.count(bad), (24, 0))
+        agree(f'blocks of {bad[:20]}', archive.write(bad, b'.' * 4096), ((24, 0), b'.' * 4096))
+    for bad in BAD_BLOCKS:
+        agree(f'block {bad[:20]}', archive.read(bad), ((23, 0), b''))
+    for block in GOOD_BLOCKS:
+        agree(f'block {block[:20]}', archive.read(block)[0].refusal, 0)
+    # "after exactly one byte of one block is changed, that block is refused"
+    accepted = [(place, byte) for place, before in enumerate(HALF_FILLED) for byte in range(256)
+                if archive.read(with_byte(HALF_FILLED, place, byte))[0].refusal == 0]
+    agree('the block with one byte replaced', accepted, list(enumerate(HALF_FILLED)))
+
+
+def archive_programs():
+    for stored, printed, told in PACKED:
+        agree(f'pack of {stored[:20]}', archive.pack(stored), (printed, told))
+    for blocks, printed, told in UNPACKED:
+        agree(f'unpack of {blocks[:20]}', archive.unpack(blocks), (printed, told))
+
+
 def bytes_taken():
     for line, figure in TAKEN:
         agree(f'bytes taken of {line}', taken(line), figure)
@@ -249,11 +325,20 @@ def callers():
         agree(f'minimum load of row {cells}, W={wind}', check_minimum_load_row(cells, wind), result)
     for wall in records():
         agree(f'{line_of(wall)} stands in callers/cases.txt', line_of(wall) in lines, True)
+    for stored, result, blocks in read_archive_texts():
+        agree(f'count of {stored[:20]}', archive.count(stored), result)
+        written = archive.write(stored, b'.' * (512 * result[1] + 30))
+        agree(f'blocks of {stored[:20]}', written, (result, b''.join(blocks) + b'.' * 30))
+    for block, result in read_archive_blocks():
+        used_part = block[4:4 + result[1]]
+        agree(f'block {block[:20]}', archive.read(block), (result, used_part))
 
 
 if __name__ == '__main__':
     documents()
     minimum_loads()
+    archives()
+    archive_programs()
     bytes_taken()
     program()
     rows()

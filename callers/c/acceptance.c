@@ -1,9 +1,10 @@
 /* Runs the acceptance cases against the library: each line, each storey record as a worksheet row too, and each row,
  * alone and into lent buffers of several lengths; of each line also the count of bytes taken. The same of the minimum
- * load in the top storey.
+ * load in the top storey. Each text is archived into buffers of several lengths and read back, and each block is read.
  *
  *     gcc -std=c11 -Wall -Wextra -I include callers/c/acceptance.c libwallcheck.a -o acceptance
- *     ./acceptance callers/cases.txt callers/rows.txt callers/minimum_load_lines.txt callers/minimum_load_rows.txt
+ *     ./acceptance callers/cases.txt callers/rows.txt callers/minimum_load_lines.txt callers/minimum_load_rows.txt \
+ *         callers/archive_texts.txt callers/archive_blocks.txt
  */
 #include <stdio.h>
 #include <stdlib.h>
@@ -11,11 +12,13 @@
 
 #include "wallcheck.h"
 
-enum { EDITION = 106, CELLS = 19 };
+enum { EDITION = 107, CELLS = 19 };
 
 _Static_assert(sizeof(wallcheck_result) == 40, "five numbers of eight bytes");
 _Static_assert(sizeof(wallcheck_reading) == 48, "a result and the count");
 _Static_assert(offsetof(wallcheck_reading, taken) == 40, "the count is the last");
+_Static_assert(sizeof(wallcheck_archived) == 16, "two numbers of eight bytes");
+_Static_assert(offsetof(wallcheck_archived, count) == 8, "the count is the second");
 _Static_assert(sizeof(wallcheck_cells) == CELLS * sizeof(double), "nineteen cells");
 _Static_assert(offsetof(wallcheck_cells, held) == 4 * sizeof(double), "held is the fifth");
 _Static_assert(offsetof(wallcheck_cells, wind) == 18 * sizeof(double), "the wind is the last");
@@ -188,6 +191,129 @@ static void run_minimum_load_row_case(const char *row, const char *columns)
     run_minimum_load_row(row, cells_of(row), strtod(columns, NULL), result_behind_wind(row, columns));
 }
 
+/* The bytes that a case names. */
+enum { MOST_BYTES = 8192 };
+struct bytes {
+    uint8_t at[MOST_BYTES];
+    size_t len;
+};
+
+static void not_bytes(const char *column)
+{
+    fprintf(stderr, "c: not bytes: %s\n", column);
+    exit(1);
+}
+
+/* Puts a piece of `len` characters behind the bytes: hexadecimal digits, and where `*` and a number stand behind them, so
+ * many times. */
+static void add_piece(struct bytes *bytes, const char *piece, size_t len)
+{
+    size_t digits = strspn(piece, "0123456789abcdef");
+    size_t times = piece[digits] == '*' ? strtoull(piece + digits + 1, NULL, 10) : 1;
+    if (digits == 0 || digits % 2 != 0 || (digits != len && piece[digits] != '*') ||
+        digits / 2 * times > MOST_BYTES - bytes->len)
+        not_bytes(piece);
+    for (size_t i = 0; i < digits / 2 * times; i++) {
+        const char *digit = piece + 2 * i % digits;
+        bytes->at[bytes->len++] = (uint8_t)strtoul((char[]){digit[0], digit[1], '\0'}, NULL, 16);
+    }
+}
+
+/* The bytes of all pieces, which have spaces or tabs between. */
+static struct bytes bytes_of(const char *columns)
+{
+    struct bytes bytes = {.len = 0};
+    const char *piece = columns + strspn(columns, " \t\n");
+    while (*piece != '\0') {
+        size_t len = strcspn(piece, " \t\n");
+        add_piece(&bytes, piece, len);
+        piece += len;
+        piece += strspn(piece, " \t\n");
+    }
+    return bytes;
+}
+
+static int same_archived(wallcheck_archived x, wallcheck_archived y)
+{
+    return x.refusal == y.refusal && x.count == y.count;
+}
+
+static wallcheck_archived archived_of(const char *numbers)
+{
+    unsigned long long refusal, count;
+    if (sscanf(numbers, "%llu %llu", &refusal, &count) != 2) {
+        fprintf(stderr, "c: not refusal and count: %s\n", numbers);
+        exit(1);
+    }
+    return (wallcheck_archived){refusal, count};
+}
+
+/* Writes the blocks of a text into a buffer of `out_len` bytes between guards: either all of them stand there afterwards, or
+ * nothing is written; what is before and behind them stays. */
+static void run_archive_write(const char *row, const struct bytes *text, const struct bytes *blocks, size_t out_len,
+                              wallcheck_archived expected)
+{
+    static uint8_t area[GUARD + 2 * MOST_BYTES + GUARD], expected_area[sizeof area];
+    memset(area, FILL, sizeof area);
+    memset(expected_area, FILL, sizeof area);
+    if (expected.refusal == 0 && out_len < blocks->len)
+        expected = (wallcheck_archived){.refusal = 24};
+    if (expected.refusal == 0)
+        memcpy(expected_area + GUARD, blocks->at, blocks->len);
+    wallcheck_archived got = wallcheck_archive_write(text->at, text->len, area + GUARD, out_len);
+    report("archive", row, same_archived(got, expected) && memcmp(area, expected_area, sizeof area) == 0);
+}
+
+/* Reads each block alone: together they yield the text. */
+static void run_archive_read_back(const char *row, const struct bytes *text, const struct bytes *blocks)
+{
+    struct bytes yielded = {.len = 0};
+    for (size_t at = 0; at < blocks->len; at += WALLCHECK_BLOCK_LEN) {
+        wallcheck_archived got = wallcheck_archive_read(blocks->at + at, WALLCHECK_BLOCK_LEN);
+        report("block of an archive", row, got.refusal == 0 && got.count <= WALLCHECK_BLOCK_LEN - 4);
+        if (got.count > WALLCHECK_BLOCK_LEN - 4)
+            return;
+        memcpy(yielded.at + yielded.len, blocks->at + at + 4, got.count);
+        yielded.len += got.count;
+    }
+    report("text read back", row, yielded.len == text->len && memcmp(yielded.at, text->at, text->len) == 0);
+}
+
+/* Behind refusal and count stand the blocks of the text, each in a column of its own. */
+static void run_archive_text_case(const char *row, const char *columns)
+{
+    const char *tab = strchr(columns, '\t');
+    struct bytes text = bytes_of(row), blocks = bytes_of(tab == NULL ? "" : tab);
+    wallcheck_archived expected = archived_of(columns);
+    if (blocks.len != WALLCHECK_BLOCK_LEN * expected.count)
+        not_bytes(columns);
+    report("count of blocks", row, same_archived(wallcheck_archive_count(text.at, text.len), expected));
+    const size_t lengths[] = {0, 512, blocks.len, blocks.len + 1, blocks.len + 511, blocks.len + 512, 2 * MOST_BYTES};
+    for (size_t i = 0; i < sizeof lengths / sizeof lengths[0]; i++)
+        run_archive_write(row, &text, &blocks, lengths[i], expected);
+    if (blocks.len > 0)
+        run_archive_write(row, &text, &blocks, blocks.len - 1, expected);
+    if (expected.refusal == 0)
+        run_archive_read_back(row, &text, &blocks);
+}
+
+static void run_archive_block_case(const char *row, const char *columns)
+{
+    struct bytes block = bytes_of(row);
+    report("block", row, same_archived(wallcheck_archive_read(block.at, block.len), archived_of(columns)));
+}
+
+/* A null pointer with length 0, as text, as buffer and as block. */
+static void run_archive_null(void)
+{
+    const uint8_t line[] = "S 175\n";
+    const wallcheck_archived nothing = {.refusal = 0}, bad_text = {.refusal = 24}, bad_block = {.refusal = 23};
+    report("count of blocks", "null", same_archived(wallcheck_archive_count(NULL, 0), nothing));
+    report("archive", "null, buffer null", same_archived(wallcheck_archive_write(NULL, 0, NULL, 0), nothing));
+    report("archive", "buffer null", same_archived(wallcheck_archive_write(line, 6, NULL, 0), bad_text));
+    report("block", "null", same_archived(wallcheck_archive_read(NULL, 0), bad_block));
+}
+
 /* A null pointer with length 0, as line and as buffer. */
 static void run_null(void)
 {
@@ -214,6 +340,10 @@ static void run_file(const char *path, void (*run)(const char *, const char *))
     }
     while (fgets(row, sizeof row, file) != NULL) {
         char *tab = strchr(row, '\t');
+        if (strchr(row, '\n') == NULL) {
+            fprintf(stderr, "c: not a whole line, or longer than %zu bytes: %s\n", sizeof row, row);
+            exit(1);
+        }
         if (row[0] == '#' || tab == NULL)
             continue;
         *tab = '\0';
@@ -224,15 +354,19 @@ static void run_file(const char *path, void (*run)(const char *, const char *))
 
 int main(int argc, char **argv)
 {
-    if (argc != 5) {
-        fprintf(stderr, "usage: acceptance cases.txt rows.txt minimum_load_lines.txt minimum_load_rows.txt\n");
+    if (argc != 7) {
+        fprintf(stderr, "usage: acceptance cases.txt rows.txt minimum_load_lines.txt minimum_load_rows.txt "
+                        "archive_texts.txt archive_blocks.txt\n");
         return 1;
     }
     run_file(argv[1], run_line_case);
     run_file(argv[2], run_row_case);
     run_file(argv[3], run_minimum_load_line_case);
     run_file(argv[4], run_minimum_load_row_case);
+    run_file(argv[5], run_archive_text_case);
+    run_file(argv[6], run_archive_block_case);
     run_null();
+    run_archive_null();
     report("edition", "", wallcheck_edition() == EDITION);
     if (different > 0) {
         fprintf(stderr, "c: %ld cases differ\n", different);

@@ -19,6 +19,17 @@ pub struct Reading {
     pub taken: u64,
 }
 
+/// What the functions of the archive return: 0 and a count; or refusal 23 or 24 and 0.
+#[repr(C)]
+#[derive(Clone, Copy, Debug, Default, PartialEq, Eq)]
+pub struct Archived {
+    pub refusal: u64,
+    pub count: u64,
+}
+
+/// The length of an archive's block.
+pub const BLOCK_LEN: usize = 512;
+
 /// A worksheet row: the 19 numbers of a storey wall's line, in its order.
 #[repr(C)]
 #[derive(Clone, Copy, Debug, Default)]
@@ -72,7 +83,7 @@ impl From<[f64; 19]> for Cells {
 
 /// The C functions themselves.
 pub mod raw {
-    use super::{Cells, CheckResult, Reading};
+    use super::{Archived, Cells, CheckResult, Reading};
 
     extern "C" {
         pub fn wallcheck_edition() -> u64;
@@ -101,6 +112,14 @@ pub mod raw {
             out: *mut u8,
             out_len: usize,
         ) -> CheckResult;
+        pub fn wallcheck_archive_count(text: *const u8, len: usize) -> Archived;
+        pub fn wallcheck_archive_write(
+            text: *const u8,
+            len: usize,
+            out: *mut u8,
+            out_len: usize,
+        ) -> Archived;
+        pub fn wallcheck_archive_read(block: *const u8, len: usize) -> Archived;
     }
 }
 
@@ -155,4 +174,19 @@ pub fn minimum_load_row(cells: Cells, wind: f64) -> CheckResult {
 
 pub fn minimum_load_row_into(cells: Cells, wind: f64, out: &mut [u8]) -> CheckResult {
     unsafe { raw::wallcheck_minimum_load_row_into(cells, wind, out.as_mut_ptr(), out.len()) }
+}
+
+/// How many blocks the lines of a text take.
+pub fn archive_count(text: &[u8]) -> Archived {
+    unsafe { raw::wallcheck_archive_count(text.as_ptr(), text.len()) }
+}
+
+/// Writes these blocks.
+pub fn archive_write(text: &[u8], out: &mut [u8]) -> Archived {
+    unsafe { raw::wallcheck_archive_write(text.as_ptr(), text.len(), out.as_mut_ptr(), out.len()) }
+}
+
+/// How many bytes a block yields, from byte 4 on.
+pub fn archive_read(block: &[u8]) -> Archived {
+    unsafe { raw::wallcheck_archive_read(block.as_ptr(), block.len()) }
 }

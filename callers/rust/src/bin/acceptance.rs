@@ -1,22 +1,24 @@
 //! Runs the acceptance cases against the library: each line, each storey record as a worksheet row too, and each row,
 //! alone and into lent buffers of several lengths; of each line also the count of bytes taken. The same of the minimum
-//! load in the top storey.
+//! load in the top storey. Each text is archived into buffers of several lengths and read back, and each block is read.
 //!
 //!     WALLCHECK_LIB_DIR=.. cargo run --release --bin acceptance
 
 use std::process::exit;
 use std::ptr::{null, null_mut};
 use wallcheck::{
-    check_line, check_line_into, check_line_taken, check_row, check_row_into, edition,
-    minimum_load_line, minimum_load_line_into, minimum_load_row, minimum_load_row_into, raw, Cells,
-    CheckResult, Reading,
+    archive_count, archive_read, archive_write, check_line, check_line_into, check_line_taken,
+    check_row, check_row_into, edition, minimum_load_line, minimum_load_line_into,
+    minimum_load_row, minimum_load_row_into, raw, Archived, Cells, CheckResult, Reading, BLOCK_LEN,
 };
 
 const LINES: &str = include_str!("../../../cases.txt");
 const ROWS: &str = include_str!("../../../rows.txt");
 const MINIMUM_LOAD_LINES: &str = include_str!("../../../minimum_load_lines.txt");
 const MINIMUM_LOAD_ROWS: &str = include_str!("../../../minimum_load_rows.txt");
-const EDITION: u64 = 106;
+const ARCHIVE_TEXTS: &str = include_str!("../../../archive_texts.txt");
+const ARCHIVE_BLOCKS: &str = include_str!("../../../archive_blocks.txt");
+const EDITION: u64 = 107;
 const OUT_LENGTHS: [usize; 4] = [0, 63, 64, 100];
 const FILL: u8 = 0xA5;
 
@@ -193,6 +195,105 @@ fn run_minimum_load(tally: &mut Tally) {
     }
 }
 
+/// The bytes of a column: pieces with a space between, hexadecimal digits, and where `*` and a number stand behind them, so
+/// many times.
+fn bytes_of(column: &str) -> Vec<u8> {
+    let pieces = column.split_ascii_whitespace();
+    pieces.flat_map(bytes_of_piece).collect()
+}
+
+fn bytes_of_piece(piece: &str) -> Vec<u8> {
+    let (digits, times) = piece.split_once('*').unwrap_or((piece, "1"));
+    let byte = |at| u8::from_str_radix(&digits[at..at + 2], 16).expect("two digits");
+    let bytes: Vec<u8> = (0..digits.len()).step_by(2).map(byte).collect();
+    bytes.repeat(times.parse().expect("how many times"))
+}
+
+fn archived(refusal: u64, count: u64) -> Archived {
+    Archived { refusal, count }
+}
+
+fn archived_of(numbers: &str) -> Archived {
+    let (refusal, count) = numbers.split_once(' ').expect("refusal and count");
+    archived(
+        refusal.parse().expect("a refusal"),
+        count.parse().expect("a count"),
+    )
+}
+
+/// What is handed back for a buffer of this length, and what it then holds: all blocks, or nothing new.
+fn archive(expected: Archived, blocks: &[u8], out_len: usize) -> (Archived, Vec<u8>) {
+    let mut out = vec![FILL; out_len];
+    if expected.refusal != 0 || out_len < blocks.len() {
+        return (archived(24, 0), out);
+    }
+    out[..blocks.len()].copy_from_slice(blocks);
+    (expected, out)
+}
+
+fn run_archive_write(tally: &mut Tally, row: &str, text: &[u8], blocks: &[u8], expected: Archived) {
+    let needed = blocks.len();
+    let lengths = [needed, needed + 1, needed + 511, needed + 512, 0, 512, 9000];
+    // one byte too few, where there is one
+    for out_len in lengths.into_iter().chain(needed.checked_sub(1)) {
+        let mut out = vec![FILL; out_len];
+        let back = archive_write(text, &mut out);
+        let agrees = (back, out) == archive(expected, blocks, out_len);
+        tally.count("archive", row, agrees);
+    }
+}
+
+/// Reads each block alone: together they yield the text.
+fn run_archive_read_back(tally: &mut Tally, row: &str, text: &[u8], blocks: &[u8]) {
+    let mut yielded = Vec::new();
+    for block in blocks.chunks(BLOCK_LEN) {
+        let back = archive_read(block);
+        let used = block[4..].get(..back.count as usize);
+        tally.count(
+            "block of an archive",
+            row,
+            back.refusal == 0 && used.is_some(),
+        );
+        yielded.extend_from_slice(used.unwrap_or_default());
+    }
+    tally.count("text read back", row, yielded == text);
+}
+
+/// Behind refusal and count stand the blocks of the text, each in a column of its own.
+fn run_archive_text_case(tally: &mut Tally, row: &str, columns: &str) {
+    let (numbers, blocks) = columns.split_once('\t').unwrap_or((columns, ""));
+    let (text, blocks, expected) = (bytes_of(row), bytes_of(blocks), archived_of(numbers));
+    assert_eq!(blocks.len() as u64, BLOCK_LEN as u64 * expected.count);
+    tally.count("count of blocks", row, archive_count(&text) == expected);
+    run_archive_write(tally, row, &text, &blocks, expected);
+    if expected.refusal == 0 {
+        run_archive_read_back(tally, row, &text, &blocks);
+    }
+}
+
+fn run_archive(tally: &mut Tally) {
+    for (row, columns) in cases(ARCHIVE_TEXTS) {
+        run_archive_text_case(tally, row, columns);
+    }
+    for (row, numbers) in cases(ARCHIVE_BLOCKS) {
+        let back = archive_read(&bytes_of(row));
+        tally.count("block", row, back == archived_of(numbers));
+    }
+}
+
+/// A null pointer with length 0, as text, as buffer and as block, which the header allows.
+fn run_archive_null(tally: &mut Tally) {
+    let count = unsafe { raw::wallcheck_archive_count(null(), 0) };
+    tally.count("count of blocks", "null", count == archived(0, 0));
+    let both = unsafe { raw::wallcheck_archive_write(null(), 0, null_mut(), 0) };
+    tally.count("archive", "null, buffer null", both == archived(0, 0));
+    let line = b"S 175\n";
+    let buffer = unsafe { raw::wallcheck_archive_write(line.as_ptr(), line.len(), null_mut(), 0) };
+    tally.count("archive", "buffer null", buffer == archived(24, 0));
+    let block = unsafe { raw::wallcheck_archive_read(null(), 0) };
+    tally.count("block", "null", block == archived(23, 0));
+}
+
 /// A null pointer with length 0, as line and as buffer, which the header allows.
 fn run_null(tally: &mut Tally) {
     let line = unsafe { raw::wallcheck_line(null(), 0) };
@@ -234,7 +335,9 @@ fn main() {
         run_row(&mut tally, row, cells_of(row), result_of(numbers));
     }
     run_minimum_load(&mut tally);
+    run_archive(&mut tally);
     run_null(&mut tally);
+    run_archive_null(&mut tally);
     tally.count("edition", "", edition() == EDITION);
     if tally.different > 0 {
         eprintln!("rust: {} cases differ", tally.different);
