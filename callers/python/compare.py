@@ -1,10 +1,10 @@
 """Compares the shared library with the oracle: acceptance cases, lines and the bytes taken of them, rows, lent buffers,
-and rows with lines; lines and rows of the minimum load.
+and rows with lines; lines and rows of the minimum load; texts and blocks of the archive.
 
-    python3 callers/python/compare.py libwallcheck.so [LINES ROWS RECORDS MINIMUM]
+    python3 callers/python/compare.py libwallcheck.so [LINES ROWS RECORDS MINIMUM TEXTS BLOCKS]
 
-Without numbers 200000 lines, 200000 rows and 100000 records are compared, and 120000 lines and as many rows of the minimum
-load.
+Without numbers 200000 lines, 200000 rows and 100000 records are compared, 120000 lines and as many rows of the minimum
+load, 20000 texts and 100000 blocks.
 """
 
 import ctypes
@@ -15,11 +15,14 @@ from pathlib import Path
 
 sys.path.insert(0, str(Path(__file__).resolve().parent.parent.parent / 'oracle'))
 
+import archive
+import archive_inputs
 import generate
 import walls
-from cases import read_lines, read_minimum_load_lines, read_minimum_load_rows, read_rows
+from cases import (read_archive_blocks, read_archive_texts, read_lines, read_minimum_load_lines, read_minimum_load_rows,
+                   read_rows)
 
-EDITION = 106
+EDITION = 107
 CELLS = ('usage thickness height length held distance support span bearing strength bonded dead imposed floorload '
          'building storeys otherspan calciumsilicate wind').split()
 GUARD = bytes(range(0xA0, 0xB0))
@@ -33,6 +36,10 @@ class Result(ctypes.Structure):
 
 class Reading(ctypes.Structure):
     _fields_ = [('result', Result), ('taken', ctypes.c_uint64)]
+
+
+class Archived(ctypes.Structure):
+    _fields_ = [('refusal', ctypes.c_uint64), ('count', ctypes.c_uint64)]
 
 
 class Cells(ctypes.Structure):
@@ -54,6 +61,9 @@ class Library:
                                                  line + [ctypes.c_uint64] + out)
         self.minimum_load_row = self.entry(library.wallcheck_minimum_load_row, [Cells, ctypes.c_double])
         self.minimum_load_row_into = self.entry(library.wallcheck_minimum_load_row_into, [Cells, ctypes.c_double] + out)
+        self.archive_count = self.entry(library.wallcheck_archive_count, line, Archived)
+        self.archive_write = self.entry(library.wallcheck_archive_write, line + out, Archived)
+        self.archive_read = self.entry(library.wallcheck_archive_read, line, Archived)
 
     @staticmethod
     def entry(function, argument_types, result_type=Result):
@@ -78,6 +88,10 @@ def numbers_of(result):
     return result.refusal, result.length_or_need, result.load, result.resistance, result.spare
 
 
+def archived_of(archived):
+    return archived.refusal, archived.count
+
+
 def reading_of(reading):
     return numbers_of(reading.result), reading.taken
 
@@ -96,11 +110,11 @@ def row_result(words):
     return walls.check_row(values_of(words))
 
 
-def lend(entry, arguments, length):
+def lend(entry, arguments, length, numbers=numbers_of):
     """Calls an entry with a buffer between guards: what is handed back, and all bytes afterwards."""
     area = ctypes.create_string_buffer(GUARD + bytes([FILL]) * length + GUARD, 2 * len(GUARD) + length)
     result = entry(*arguments, ctypes.byref(area, len(GUARD)), length)
-    return numbers_of(result), area.raw
+    return numbers(result), area.raw
 
 
 def lent(result, length):
@@ -186,6 +200,101 @@ def compare_minimum_load_rows(library, comparison, count):
     return compared
 
 
+def archived_into(library, text, length):
+    return lend(library.archive_write, (text, len(text)), length, archived_of)
+
+
+def archived_into_by_oracle(text, length):
+    told, buffer = archive.write(text, bytes([FILL]) * length)
+    return told, GUARD + buffer + GUARD
+
+
+def block_of_archive(library, block):
+    """What the library hands back for a block, and the bytes that the block then yields."""
+    told = archived_of(library.archive_read(block, len(block)))
+    return told, block[4:4 + told[1]]
+
+
+def compare_archive_cases(library, comparison):
+    compared = 0
+    for text, expected, blocks in read_archive_texts():
+        size = 512 * len(blocks)
+        comparison.equal(text, archived_of(library.archive_count(text, len(text))), expected)
+        written = GUARD + b''.join(blocks) + bytes([FILL]) * 30 + GUARD
+        comparison.equal(text, archived_into(library, text, size + 30), (expected, written))
+        compared += 1
+    for block, expected in read_archive_blocks():
+        comparison.equal(block, archived_of(library.archive_read(block, len(block))), expected)
+        compared += 1
+    comparison.equal('no text', archived_of(library.archive_count(None, 0)), (0, 0))
+    comparison.equal('no text, no buffer', archived_of(library.archive_write(None, 0, None, 0)), (0, 0))
+    comparison.equal('no block', archived_of(library.archive_read(None, 0)), (23, 0))
+    return compared + 3
+
+
+def compare_archive_texts(library, comparison, count):
+    """Each text counted, and written into a buffer that just holds its blocks, one that is a byte shorter, one of half the
+    length and a longer one; and its blocks read back."""
+    compared = 0
+    for text in archive_inputs.texts(count):
+        told = archive.count(text)
+        size = 512 * told.count
+        comparison.equal(text, archived_of(library.archive_count(text, len(text))), told)
+        for length in {size, max(size - 1, 0), size // 2, size + 1 + compared % 600}:
+            comparison.equal((text, length), archived_into(library, text, length), archived_into_by_oracle(text, length))
+        _, area = archived_into(library, text, size)
+        read_back = [block_of_archive(library, block) for block in archive.pieces(area[len(GUARD):len(GUARD) + size])]
+        comparison.equal(text, (b''.join(used for _, used in read_back), sum(told[0] for told, _ in read_back)),
+                         (b'' if told.refusal else text, 0))
+        compared += 1
+    return compared
+
+
+def compare_archive_blocks(library, comparison, count):
+    compared = 0
+    for block in archive_inputs.blocks(count):
+        comparison.equal(block, archived_of(library.archive_read(block, len(block))), archive.read(block)[0])
+        compared += 1
+    return compared
+
+
+def compare_changed_blocks(library, comparison):
+    """Document 02, #107: "after exactly one byte of one block is changed, that block is refused". Each byte of a block is
+    changed to every other value: of one without lines, a full one, one filled by half and one with the greatest sum."""
+    compared = 0
+    every_byte = [bytes([value]) for value in range(256)]
+    for block in (bytes(512), archive_inputs.FULL, archive_inputs.HALF_FILLED, archive.block_of(b'\xff' * 507 + b'\n')):
+        area = ctypes.create_string_buffer(block, len(block))
+        for place, before in enumerate(block):
+            for value in every_byte[:before] + every_byte[before + 1:]:
+                area[place] = value
+                got = library.archive_read(area, 512)
+                if (got.refusal, got.count) != (23, 0):
+                    comparison.equal((block, place, value), archived_of(got), (23, 0))
+                compared += 1
+            area[place] = every_byte[before]
+        comparison.equal(block, archived_of(library.archive_read(area, 512)), archive.read(block)[0])
+    return compared
+
+
+def compare_spoiled_archives(library, comparison):
+    """The same with archives of several blocks: "all others yield theirs"."""
+    compared, numbers = 0, generate.Numbers(13)
+    for text in archive_inputs.texts(4000):
+        blocks = archive.pieces(archived_into(library, text, 512 * archive.count(text).count)[1][len(GUARD):-len(GUARD)])
+        if not 2 <= len(blocks) <= 12:
+            continue
+        place = numbers.within(0, 512 * len(blocks) - 1)
+        spoiled, at = divmod(place, 512)
+        expected = [((0, len(used)), used) for used in archive.used_parts(archive.lines_of(text))]
+        expected[spoiled] = (23, 0), b''
+        value = (blocks[spoiled][at] + numbers.within(1, 255)) % 256
+        blocks[spoiled] = archive_inputs.with_byte(blocks[spoiled], at, value)
+        comparison.equal((text, place, value), [block_of_archive(library, block) for block in blocks], expected)
+        compared += 1
+    return compared
+
+
 def compare_rows_with_lines(library, comparison, count):
     compared = 0
     for wall in generate.storey_records(count):
@@ -230,18 +339,22 @@ def compare_minimum_load_buffers(library, comparison):
 
 
 def main():
-    if len(sys.argv) not in (2, 6):
+    if len(sys.argv) not in (2, 8):
         sys.exit(__doc__)
-    lines, rows, records, minimum = map(int, sys.argv[2:] or (200000, 200000, 100000, 120000))
+    lines, rows, records, minimum, texts, blocks = map(int, sys.argv[2:] or (200000, 200000, 100000, 120000, 20000, 100000))
     library, comparison = Library(str(Path(sys.argv[1]).resolve())), Comparison()
-    cases = compare_cases(library, comparison) + compare_minimum_load_cases(library, comparison)
+    cases = (compare_cases(library, comparison) + compare_minimum_load_cases(library, comparison)
+             + compare_archive_cases(library, comparison))
     buffers = compare_buffers(library, comparison) + compare_minimum_load_buffers(library, comparison)
     print('python:', cases, 'cases,', buffers, 'buffers,',
           compare_lines(library, comparison, lines), 'lines,', compare_near_lines(library, comparison),
           'lines near to A and K,', compare_rows(library, comparison, rows), 'rows,',
           compare_rows_with_lines(library, comparison, records), 'rows with their lines;',
           compare_minimum_load_lines(library, comparison, minimum), 'lines and',
-          compare_minimum_load_rows(library, comparison, minimum), 'rows of the minimum load:',
+          compare_minimum_load_rows(library, comparison, minimum), 'rows of the minimum load;',
+          compare_archive_texts(library, comparison, texts), 'texts,', compare_archive_blocks(library, comparison, blocks),
+          'blocks,', compare_changed_blocks(library, comparison), 'blocks with one byte changed and',
+          compare_spoiled_archives(library, comparison), 'archives with one such block:',
           comparison.different, 'differences')
     sys.exit(1 if comparison.different else 0)
 
