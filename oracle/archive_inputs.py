@@ -121,8 +121,8 @@ def texts(count):
 
 HALF_FILLED = block_of((line_of(A) + b'\n') * 3 + line_of(K) + b'\n')
 FULL = block_of(lengths_as_text(200, 100, 208))
-GOOD_BLOCKS = [bytes(BLOCK), block_of(b'\n'), block_of(b'S 175\n'), HALF_FILLED, FULL, block_of(line_of_length(508, b'\xff')),
-               block_of(line_of_length(507)), block_of(text_with_sum(65535)), block_of(text_with_sum(65536))]
+GOOD_BLOCKS = [bytes(BLOCK), block_of(b'\n'), block_of(b'S 175\n'), HALF_FILLED, FULL, block_of(line_of_length(507)),
+               *(block_of(text_with_sum(total)) for total in (65535, 65536, 129548))]
 
 
 def with_number(block, place, number):
@@ -159,7 +159,8 @@ def blocks_with_one_fault():
 
 
 def blocks_with_one_byte_put_in():
-    """A byte of the remainder, of the used part's end or of its middle, with the right sum: only the first two are faults."""
+    """A byte put in each place behind the sum, with the right sum for it: a fault in the remainder, and at the used part's
+    end where it is not byte 10, and none elsewhere."""
     for block in (bytes(BLOCK), block_of(b'\n'), HALF_FILLED, block_of(line_of_length(507)), FULL):
         for place in range(4, BLOCK):
             yield with_right_sum(with_byte(block, place, 10))
@@ -177,17 +178,16 @@ def block_edges():
 
 
 def random_used_part(pools):
-    """Whole lines of at most 508 bytes, as often few as many."""
+    """Whole lines of at most 508 bytes together, or none."""
     lines, left = [], pools.numbers.within(0, MOST_USED)
-    while left > 0:
-        line = pools.line(pools.numbers.within(1, left))
-        lines.append(line)
-        left -= len(line) if pools.numbers.within(1, 5) > 1 else left
+    while left > 0 and not pools.numbers.one_in(6):
+        lines.append(pools.line(pools.numbers.within(1, left)))
+        left -= len(lines[-1])
     return b''.join(lines)
 
 
 def damaged(numbers, block):
-    """The block changed in one of the ways that a writer or a disk may have; some of them are no fault."""
+    """The block changed as a wrong writer or a bad disk may do it; some of the changes are no fault."""
     kind, place, byte = numbers.within(1, 8), numbers.within(0, BLOCK - 1), numbers.within(0, 255)
     used = block[0] + 256 * block[1]
     if kind == 1:
@@ -236,8 +236,7 @@ def stored_text():
 
 def stored_archive():
     pools = Pools(Numbers(11))
-    parts = (b'' if pools.numbers.one_in(10) else random_used_part(pools) for _ in range(300))
-    return b''.join(chain(GOOD_BLOCKS, map(block_of, parts)))
+    return b''.join([*GOOD_BLOCKS, *(block_of(random_used_part(pools)) for _ in range(300))])
 
 
 def each_tenth(inputs):
