@@ -219,10 +219,12 @@ static void add_piece(struct bytes *bytes, const char *piece, size_t len)
     }
 }
 
-/* The bytes of all pieces, which have spaces or tabs between. */
+/* The bytes of all pieces, which have spaces or tabs between. Behind them stand bytes 10, which would end a line or a used
+ * part if a function looked there. */
 static struct bytes bytes_of(const char *columns)
 {
     struct bytes bytes = {.len = 0};
+    memset(bytes.at, '\n', sizeof bytes.at);
     const char *piece = columns + strspn(columns, " \t\n");
     while (*piece != '\0') {
         size_t len = strcspn(piece, " \t\n");

@@ -27,6 +27,8 @@ CELLS = ('usage thickness height length held distance support span bearing stren
          'building storeys otherspan calciumsilicate wind').split()
 GUARD = bytes(range(0xA0, 0xB0))
 FILL = 0xA5
+# Stands behind a text or a block, and would end its last line or its used part if a function looked there.
+BEHIND = b'\n\n'
 
 
 class Result(ctypes.Structure):
@@ -200,8 +202,12 @@ def compare_minimum_load_rows(library, comparison, count):
     return compared
 
 
+def count_of_archive(library, text):
+    return archived_of(library.archive_count(text + BEHIND, len(text)))
+
+
 def archived_into(library, text, length):
-    return lend(library.archive_write, (text, len(text)), length, archived_of)
+    return lend(library.archive_write, (text + BEHIND, len(text)), length, archived_of)
 
 
 def archived_into_by_oracle(text, length):
@@ -211,7 +217,7 @@ def archived_into_by_oracle(text, length):
 
 def block_of_archive(library, block):
     """What the library hands back for a block, and the bytes that the block then yields."""
-    told = archived_of(library.archive_read(block, len(block)))
+    told = archived_of(library.archive_read(block + BEHIND, len(block)))
     return told, block[4:4 + told[1]]
 
 
@@ -219,12 +225,12 @@ def compare_archive_cases(library, comparison):
     compared = 0
     for text, expected, blocks in read_archive_texts():
         size = 512 * len(blocks)
-        comparison.equal(text, archived_of(library.archive_count(text, len(text))), expected)
+        comparison.equal(text, count_of_archive(library, text), expected)
         written = GUARD + b''.join(blocks) + bytes([FILL]) * 30 + GUARD
         comparison.equal(text, archived_into(library, text, size + 30), (expected, written))
         compared += 1
     for block, expected in read_archive_blocks():
-        comparison.equal(block, archived_of(library.archive_read(block, len(block))), expected)
+        comparison.equal(block, block_of_archive(library, block)[0], expected)
         compared += 1
     comparison.equal('no text', archived_of(library.archive_count(None, 0)), (0, 0))
     comparison.equal('no text, no buffer', archived_of(library.archive_write(None, 0, None, 0)), (0, 0))
@@ -239,7 +245,7 @@ def compare_archive_texts(library, comparison, count):
     for text in archive_inputs.texts(count):
         told = archive.count(text)
         size = 512 * told.count
-        comparison.equal(text, archived_of(library.archive_count(text, len(text))), told)
+        comparison.equal(text, count_of_archive(library, text), told)
         for length in {size, max(size - 1, 0), size // 2, size + 1 + compared % 600}:
             comparison.equal((text, length), archived_into(library, text, length), archived_into_by_oracle(text, length))
         _, area = archived_into(library, text, size)
@@ -253,7 +259,7 @@ def compare_archive_texts(library, comparison, count):
 def compare_archive_blocks(library, comparison, count):
     compared = 0
     for block in archive_inputs.blocks(count):
-        comparison.equal(block, archived_of(library.archive_read(block, len(block))), archive.read(block)[0])
+        comparison.equal(block, block_of_archive(library, block), archive.read(block))
         compared += 1
     return compared
 
