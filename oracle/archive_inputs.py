@@ -108,7 +108,7 @@ def random_text(pools):
         return text[:-1] if numbers.one_in(2) else text + pools.line(numbers.within(2, MOST_USED))[:-1]
     lines = lines_of(text)
     place = numbers.within(0, len(lines))
-    return b''.join([*lines[:place], pools.line(MOST_USED)[:-1], pools.line(numbers.within(2, 30)), *lines[place:]])
+    return b''.join([*lines[:place], pools.line(MOST_USED)[:-1], pools.line(numbers.within(2, 8)), *lines[place:]])
 
 
 def texts(count):
@@ -178,9 +178,10 @@ def block_edges():
 
 
 def random_used_part(pools):
-    """Whole lines of at most 508 bytes together, or none."""
-    lines, left = [], pools.numbers.within(0, MOST_USED)
-    while left > 0 and not pools.numbers.one_in(6):
+    """Whole lines of at most 508 bytes together, or none; one in five fills its block."""
+    full = pools.numbers.one_in(5)
+    lines, left = [], MOST_USED if full else pools.numbers.within(0, MOST_USED)
+    while left > 0 and (full or not pools.numbers.one_in(6)):
         lines.append(pools.line(pools.numbers.within(1, left)))
         left -= len(lines[-1])
     return b''.join(lines)
