@@ -209,6 +209,11 @@ fn bytes_of_piece(piece: &str) -> Vec<u8> {
     bytes.repeat(times.parse().expect("how many times"))
 }
 
+/// Bytes 10 behind a text or a block would end its last line or its used part if a function looked there.
+fn with_ends_behind(bytes: &[u8]) -> Vec<u8> {
+    [bytes, b"\n\n"].concat()
+}
+
 fn archived(refusal: u64, count: u64) -> Archived {
     Archived { refusal, count }
 }
@@ -264,10 +269,12 @@ fn run_archive_text_case(tally: &mut Tally, row: &str, columns: &str) {
     let (numbers, blocks) = columns.split_once('\t').unwrap_or((columns, ""));
     let (text, blocks, expected) = (bytes_of(row), bytes_of(blocks), archived_of(numbers));
     assert_eq!(blocks.len() as u64, BLOCK_LEN as u64 * expected.count);
-    tally.count("count of blocks", row, archive_count(&text) == expected);
-    run_archive_write(tally, row, &text, &blocks, expected);
+    let lent = with_ends_behind(&text);
+    let text = &lent[..text.len()];
+    tally.count("count of blocks", row, archive_count(text) == expected);
+    run_archive_write(tally, row, text, &blocks, expected);
     if expected.refusal == 0 {
-        run_archive_read_back(tally, row, &text, &blocks);
+        run_archive_read_back(tally, row, text, &blocks);
     }
 }
 
@@ -276,7 +283,8 @@ fn run_archive(tally: &mut Tally) {
         run_archive_text_case(tally, row, columns);
     }
     for (row, numbers) in cases(ARCHIVE_BLOCKS) {
-        let back = archive_read(&bytes_of(row));
+        let block = bytes_of(row);
+        let back = archive_read(&with_ends_behind(&block)[..block.len()]);
         tally.count("block", row, back == archived_of(numbers));
     }
 }
