@@ -8,7 +8,7 @@ use borrow.Author.Tests.{ltb-true}
 use Rattle.std.specs.Prelude.{get_or, Ok, Err}
 use lib.Dec.{ltb}
 use Rattle.basis.specs.declared.Refusal.{Refusal}
-use Rattle.basis.specs.declared.Refusal.TheVariants.{NotALine, OutOfRange, WallTooThin, AreaTooSmall, UnfitForUse, WallTooHigh, FloorLoadTooGreat, BuildingTooHigh, SpanTooLong, BearingTooShallow, StrengthTooLow, WallTooSlender, LoadAboveResistance, CellarWallTooThin, CellarWallTooHigh, FillTooHigh, GroundLoadTooGreat, CellarLoadAboveResistance, DeadLoadBelowNeed, BufferTooShort, DeadLoadBelowMinimum}
+use Rattle.basis.specs.declared.Refusal.TheVariants.{NotALine, OutOfRange, WallTooThin, AreaTooSmall, UnfitForUse, WallTooHigh, FloorLoadTooGreat, BuildingTooHigh, SpanTooLong, BearingTooShallow, StrengthTooLow, WallTooSlender, LoadAboveResistance, CellarWallTooThin, CellarWallTooHigh, FillTooHigh, GroundLoadTooGreat, CellarLoadAboveResistance, DeadLoadBelowNeed, BufferTooShort, DeadLoadBelowMinimum, BlockDamaged, TextNotStored}
 use Rattle.basis.specs.Refusal.{number_of, first_or, first_of, NoneApplies}
 use Rattle.basis.specs.Check.{every_number}
 use Rattle.basis.proofs.Choice.{cond_cases, and_left, and_right, Implies, implies_false}
@@ -91,7 +91,7 @@ none_kept (◌then◌ {r} {s} implied others) none = (implies_false s.1 r.1 impl
 
 -- A number stands for one refusal only, so that nothing is lost where a contract names it.
 
--- The refusals by number; 0 is none of theirs.
+-- The refusals by number; 0 and 22 are none of theirs.
 refusals : List Refusal
 refusals =
     NotALine
@@ -116,6 +116,9 @@ refusals =
     ∷ DeadLoadBelowNeed
     ∷ BufferTooShort
     ∷ DeadLoadBelowMinimum
+    ∷ NotALine
+    ∷ BlockDamaged
+    ∷ TextNotStored
     ∷ []
 
 refusal_of : ℕ → Refusal
@@ -144,6 +147,8 @@ found_again CellarLoadAboveResistance = refl
 found_again DeadLoadBelowNeed = refl
 found_again BufferTooShort = refl
 found_again DeadLoadBelowMinimum = refl
+found_again BlockDamaged = refl
+found_again TextNotStored = refl
 
 pub number_of_one : (r s : Refusal) → number_of r ≡ number_of s → r ≡ s
 number_of_one r s same = sym (found_again r) ∙ ap refusal_of same ∙ found_again s

@@ -1,0 +1,176 @@
+-- Laws of a block: of its parts, of the block that holds some lines, and of what a block yields.
+use Prim.Native.Nat.{ℕ, zero, suc, ◌+◌, ◌-◌, ◌*◌, ◌/◌, ◌%◌, ◌≤◌, ◌<◌}
+use native.Mathlib.Omega.{arith}
+use native.Mathlib.Decide.{ℕ_discrete}
+use native.Mathlib.Nat.{zero-add}
+use mathlib.Core.Bool.{Bool, true, false, cond, ◌&&◌, ◌||◌, and-false, and_assoc}
+use mathlib.Core.List.{List, [], ◌∷◌, ◌++◌, append-nil}
+use mathlib.Core.Path.{◌≡◌, refl, sym, ap, ◌∙◌}
+use lib.Dec.{eqb, leb}
+use lib.ListN.{length, take, drop, get_or, length-append, length-replicate}
+use lib.Seq.{drop-drop, drop-length}
+use borrow.Author.Tests.{eq-eqb, ne_eqb, le-leb, lt-leb, eqb-true, leb-true}
+use Rattle.std.proofs.Common.{Fits, w8, w16, sum, replicate, Some}
+use Rattle.std.specs.Int.{to_le_bytes}
+use Rattle.buffer.specs.Overwrite.{overwrite}
+use Rattle.buffer.proofs.Overwrite.{overwrite_joins, overwrite_start}
+use Rattle.std.specs.Prelude.{Result, Ok, Err}
+use Rattle.std.specs.List.{slice_get, list_all}
+use Rattle.std.proofs.lemmas.Option.{slice_get_within, get_or_from_slice_get}
+use Rattle.std.proofs.lemmas.List.Sums.{sum_by-cons, sum_by-append, sum_by-take-drop}
+use Rattle.std.proofs.lemmas.List.Folds.{sum_by-replicate}
+use Rattle.basis.proofs.Choice.{and_left, and_right, cond_cases}
+use Rattle.archive.specs.Block.{two_bytes, block_of, number_at, used, sum_of_others, used_part, remainder, whole_lines, sound, read_block}
+
+-- ── whole lines ──
+pub whole_none : (bytes : List ℕ) → length bytes ≤ 0 → true ≡ whole_lines bytes
+unfolding whole_lines
+whole_none bytes none = rw (eq-eqb (length bytes) 0 (omega arith)) refl
+
+pub whole_last : (bytes : List ℕ) (last : ℕ) → Some last ≡ slice_get bytes (length bytes - 1) → eqb last 10 ≡ whole_lines bytes
+unfolding whole_lines
+whole_last bytes last is =
+    let some : 0 < length bytes = omega (arith, slice_get_within bytes (length bytes - 1) last (sym is)) in
+    rw (← get_or_from_slice_get bytes (length bytes - 1) last 0 (sym is), ne_eqb (length bytes) 0 (omega (arith, some))) refl
+
+-- ── sums of bytes ──
+pub sum_most : (l : List ℕ) → ((i : ℕ) → Fits w8 (get_or l i 0)) → sum l ≤ 255 * length l
+sum_most [] bytes = omega arith
+sum_most (byte ∷ l) bytes = omega (arith, sum_by-cons (λ n. n) byte l, sum_most l (λ i. bytes (suc i)), bytes 0)
+
+sum_first : (byte : ℕ) (l : List ℕ) → sum (byte ∷ l) ≡ byte + sum l
+sum_first = sum_by-cons (λ n. n)
+
+-- Bytes are zero where their sum is.
+pub zeros_test : (l : List ℕ) → list_all (λ byte. eqb byte 0) l ≡ eqb (sum l) 0
+zeros_test [] = refl
+zeros_test (byte ∷ l) =
+    elim (ℕ_discrete byte 0) [
+      | yes is ↦ rw (eq-eqb byte 0 is, sum_first byte l, is, zero-add) (zeros_test l)
+      | no isnt ↦ rw (ne_eqb byte 0 isnt, ne_eqb (sum (byte ∷ l)) 0 (omega (arith, sum_first byte l, isnt))) refl
+    ]
+
+-- ── the block that holds some lines ──
+two_bytes_low : (n : ℕ) → n < 65536 → to_le_bytes w16 n ≡ two_bytes n
+unfolding two_bytes
+two_bytes_low n h = ap (λ (high : ℕ). n % 256 ∷ high ∷ []) (omega arith)
+
+sum_zeros : (n : ℕ) → sum (replicate n 0) ≡ 0
+sum_zeros n = sum_by-replicate (λ n. n) n 0 ∙ omega arith
+
+-- The lines put over the first bytes, and zeros over the others.
+filled_up :
+    (rest lines : List ℕ) (count : ℕ) → length lines + count ≡ length rest
+    → overwrite (overwrite rest 0 lines) (length lines) (replicate count 0) ≡ lines ++ replicate count 0
+filled_up rest lines count whole =
+    let zeros : List ℕ = replicate count 0 in
+    let length_zeros : length zeros ≡ count = length-replicate count 0 in
+    let joined = rw zero-add at (overwrite_joins rest 0 lines zeros (omega (arith, length_zeros))) in
+    let all : length rest ≡ length (lines ++ zeros) = simp length-append (omega (arith, length_zeros)) in
+    joined ∙ overwrite_start rest (lines ++ zeros) (omega arith) ∙ rw (← all, drop-length rest) (append-nil (lines ++ zeros))
+
+-- Head and rest as the writer makes them.
+pub block_written :
+    (lines rest : List ℕ) {front inner : ℕ} {count total head copied cleared : List ℕ} → length lines ≤ 508 → length rest ≡ 508
+    → count ≡ to_le_bytes w16 (length lines) → front ≡ sum count → inner ≡ sum lines → total ≡ to_le_bytes w16 ((front + inner) % 65536)
+    → head ≡ get_or count 0 0 ∷ get_or count 1 0 ∷ get_or total 0 0 ∷ get_or total 1 0 ∷ [] → copied ≡ overwrite rest 0 lines
+    → cleared ≡ overwrite copied (length lines) (replicate (508 - length lines) 0) → head ++ cleared ≡ block_of lines
+unfolding block_of two_bytes
+block_written lines rest {front} {inner} {count} {total} fits size c f i t h copy clear =
+    let zeros : List ℕ = replicate (508 - length lines) 0 in
+    let rest_is = clear ∙ ap (λ b. overwrite b (length lines) zeros) copy ∙ filled_up rest lines (508 - length lines) (omega arith) in
+    let count_is : count ≡ two_bytes (length lines) = c ∙ two_bytes_low (length lines) (omega arith) in
+    let lines_sum : sum (lines ++ zeros) ≡ inner = sum_by-append (λ n. n) lines zeros ∙ omega (arith, sum_zeros (508 - length lines), i) in
+    let total_is : total ≡ two_bytes ((front + inner) % 65536) = t ∙ two_bytes_low ((front + inner) % 65536) (omega arith) in
+    rw (h, rest_is, total_is, lines_sum, f, count_is) refl
+
+-- ── what a block yields ──
+-- That a block is sound, in five facts.
+pub record Sound (block : List ℕ) : Type 0 where
+  pub size : length block ≡ 512
+  pub count : used block ≤ 508
+  pub total : number_at 2 block ≡ sum_of_others block
+  pub rest : sum (remainder block) ≡ 0
+  pub lines : whole_lines (used_part block) ≡ true
+
+pub sound_parts : (block : List ℕ) → sound block ≡ true → Sound block
+unfolding sound
+sound_parts block all =
+    let size = eqb (length block) 512 in
+    let count = leb (used block) 508 in
+    let total = eqb (number_at 2 block) (sum_of_others block) in
+    let rest = list_all (λ byte. eqb byte 0) (remainder block) in
+    let lines = whole_lines (used_part block) in
+    let behind_size = and_right size (count && (total && (rest && lines))) all in
+    let behind_count = and_right count (total && (rest && lines)) behind_size in
+    let behind_total = and_right total (rest && lines) behind_count in
+    record {
+      size = eqb-true (length block) 512 (and_left size (count && (total && (rest && lines))) all);
+      count = leb-true (used block) 508 (and_left count (total && (rest && lines)) behind_size);
+      total = eqb-true (number_at 2 block) (sum_of_others block) (and_left total (rest && lines) behind_count);
+      rest = eqb-true (sum (remainder block)) 0 (sym (zeros_test (remainder block)) ∙ and_left rest lines behind_total);
+      lines = and_right rest lines behind_total;
+    }
+
+module _ (block : List ℕ) where
+  pub sound_size : (length block ≡ 512 → ⊥) → false ≡ sound block
+  unfolding sound
+  sound_size other = rw (ne_eqb (length block) 512 other) refl
+
+  pub sound_count : 508 < used block → false ≡ sound block
+  unfolding sound
+  sound_count above = rw (lt-leb (used block) 508 above) (sym (and-false (eqb (length block) 512)))
+
+  -- The sum of the others is that of three parts.
+  others_parts : sum_of_others block ≡ (sum (take 2 block) + sum (used_part block) + sum (remainder block)) % 65536
+  unfolding sum_of_others used_part remainder
+  others_parts =
+      let parts : sum (take (used block) (drop 4 block)) + sum (drop (used block) (drop 4 block)) ≡ sum (drop 4 block) =
+      sum_by-take-drop (λ n. n) (drop 4 block) (used block) in
+      ap (λ n. n % 65536) (omega (arith, rw (drop-drop (used block) 4 block) at parts))
+
+  -- Of a block of the right length and count, the tests of sum, remainder and lines, however its parts and their sums were found.
+  pub sound_tests :
+      {count total front inner zeros : ℕ} {rest lines behind : List ℕ} {whole : Bool} → length block ≡ 512 → count ≤ 508 → count ≡ used block
+      → rest ≡ drop 4 block → lines ≡ take count rest → behind ≡ drop count rest → total ≡ number_at 2 block → front ≡ sum (take 2 block)
+      → inner ≡ sum lines → zeros ≡ sum behind → whole ≡ whole_lines lines
+      → (eqb total ((front + inner + zeros) % 65536) && eqb zeros 0 && whole) ≡ sound block
+  unfolding sound used_part remainder
+  sound_tests {count} {total} {front} {inner} {zeros} {rest} {lines} {behind} {whole} size few is r l b t f i z w =
+      let in_range = le-leb (used block) 508 (rw is at few) in
+      let lines_is : lines ≡ used_part block = rw (r, is) at l in
+      let behind_is : behind ≡ remainder block = b ∙ rw (r, is) (drop-drop (used block) 4 block) in
+      let inner_is : inner ≡ sum (used_part block) = i ∙ ap sum lines_is in
+      let zeros_is : zeros ≡ sum (remainder block) = z ∙ ap sum behind_is in
+      let whole_is : whole ≡ whole_lines (used_part block) = w ∙ ap whole_lines lines_is in
+      rw (eq-eqb (length block) 512 size, in_range, others_parts, zeros_test (remainder block), ← t, ← f, ← inner_is, ← zeros_is, ← whole_is)
+      (and_assoc (eqb total ((front + inner + zeros) % 65536)) (eqb zeros 0) whole)
+
+pub sound_from : (block : List ℕ) → Sound block → true ≡ sound block
+unfolding sound
+sound_from block s =
+    rw (
+      eq-eqb (length block) 512 s.size,
+      le-leb (used block) 508 s.count,
+      eq-eqb (number_at 2 block) (sum_of_others block) s.total,
+      zeros_test (remainder block),
+      eq-eqb (sum (remainder block)) 0 s.rest,
+      s.lines,
+    ) refl
+
+pub used_lem : (block : List ℕ) → used block ≡ number_at 0 block
+unfolding used
+used_lem block = refl
+
+pub read_refused : (block : List ℕ) → false ≡ sound block → ◌≡◌ {A = Result (List ℕ) ℕ} (Err 23) (read_block block)
+unfolding read_block
+read_refused block s = rw (← s) refl
+
+pub read_sound :
+    (block : List ℕ) {count : ℕ} {rest lines : List ℕ} → true ≡ sound block → count ≡ used block → rest ≡ drop 4 block → lines ≡ take count rest
+    → Ok lines ≡ read_block block
+unfolding read_block used_part
+read_sound block s is r l = rw (← s, ← is, ← r, ← l) refl
+
+pub sound_fits : (block : List ℕ) → true ≡ sound block → Sound block
+sound_fits block s = sound_parts block (sym s)

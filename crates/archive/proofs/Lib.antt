@@ -1,0 +1,4 @@
+-- Laws of the packing of a text, and of blocks; the claims.
+pub mod Lines
+pub mod Packing
+pub mod BlockParts

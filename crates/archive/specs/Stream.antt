@@ -1,0 +1,29 @@
+-- What is packed of the bytes at hand, wherever an input is cut into pieces, and that the pieces make up its archive.
+use Rattle.std.specs.Prelude.{ℕ, zero, suc, ◌+◌, ◌≤◌, Bool, true, false, ◌||◌, cond, List, [], ◌∷◌, ◌++◌, ◌≡◌, leb, length, take, drop}
+use Rattle.text.specs.LineEnd.{ended}
+use Rattle.archive.specs.Packing.{storable, archive_of}
+
+-- How many bytes stand up to and including the last byte 10; 0 where there is none.
+unfoldable pub last_end : List ℕ → ℕ
+last_end [] = 0
+last_end (byte ∷ bytes) = cond (ended (byte ∷ bytes)) (suc (last_end bytes)) 0
+
+-- How many bytes the first block takes: of the first 508 those that are whole lines.
+abbrev pub first_length : List ℕ → ℕ
+first_length bytes = last_end (take 508 bytes)
+
+-- Whether the lines of the block that begins here are known: with 508 bytes at hand, or at the end of the input.
+abbrev pub settled : Bool → List ℕ → Bool
+settled ended· bytes = ended· || leb 508 (length bytes)
+
+-- How many bytes the first `most` blocks take, as far as these are settled and no line comes that no block can hold.
+unfoldable pub packed_length : ℕ → Bool → List ℕ → ℕ
+packed_length zero ended· bytes = 0
+packed_length (suc most) ended· bytes =
+    cond (settled ended· bytes) (first_length bytes + packed_length most ended· (drop (first_length bytes) bytes)) 0
+
+abbrev pub packed_of : ℕ → Bool → List ℕ → List ℕ
+packed_of most ended· bytes = take (packed_length most ended· bytes) bytes
+
+abbrev pub unpacked_of : ℕ → Bool → List ℕ → List ℕ
+unpacked_of most ended· bytes = drop (packed_length most ended· bytes) bytes

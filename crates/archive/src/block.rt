@@ -1,0 +1,96 @@
+// One block: how many bytes are used, the sum of the others, whole lines, zeros.
+ghost use Rattle.std.specs.Prelude.{ℕ, ◌≡◌, ◌≤◌, ◌+◌, ◌<◌, ◌*◌, length, sum};
+ghost use Rattle.std.specs.Result.{result_map_both};
+ghost use Rattle.basis.specs.Refusal.{number_of};
+ghost use Rattle.archive.specs.Block.{number_at, block_of, whole_lines, sound, read_block};
+
+use crate::LINE_END;
+use basis::Refusal;
+
+pub(crate) const BLOCK: usize = 512;
+
+// The lines begin behind the number of bytes used and the sum, of two bytes each.
+const COUNT: usize = 0;
+const SUM: usize = 2;
+const LINES: usize = 4;
+
+// How many bytes of lines a block holds at most.
+pub(crate) const CAPACITY: usize = BLOCK - LINES;
+
+const SUM_MODULUS: u32 = 65536;
+
+// Writes the block that holds `lines`.
+pub(crate) fn write_block(lines: &[u8], block: &mut [u8])
+    requires capacity { length lines.now ≤ 508 }
+    requires block { length block.old ≡ 512 }
+    ensures { block.new ≡ block_of lines.now }
+{
+    let (head, rest) = block.split_at_mut(LINES);
+    let count = (lines.len() as u16).to_le_bytes();
+    let sum = (sum_of(&count) + sum_of(lines)) % SUM_MODULUS;
+    let sum = (sum as u16).to_le_bytes();
+    head.copy_from_slice(&[count[0], count[1], sum[0], sum[1]]);
+    buffer::copy(rest, 0, lines);
+    buffer::clear(rest, lines.len(), CAPACITY - lines.len());
+}
+
+// The lines of a block: its used part.
+pub fn read_block(block: &[u8]) -> Result<&[u8], Refusal>
+    ensures { result_map_both (λ lines. lines.now) number_of result ≡ read_block block.now }
+{
+    if !is_sound(block) {
+        return Err(Refusal::BlockDamaged);
+    }
+    let count = usize::from(number_at(block, COUNT));
+    let (_, rest) = block.split_at(LINES);
+    let (lines, _) = rest.split_at(count);
+    Ok(lines)
+}
+
+// Whether length, count, sum and remainder are right, and the used part is whole lines.
+fn is_sound(block: &[u8]) -> bool
+    ensures { result ≡ sound block.now }
+{
+    if block.len() != BLOCK {
+        return false;
+    }
+    let count = usize::from(number_at(block, COUNT));
+    if count > CAPACITY {
+        return false;
+    }
+    let (_, rest) = block.split_at(LINES);
+    let (lines, remainder) = rest.split_at(count);
+    let remainder = sum_of(remainder);
+    let others = sum_of(&block[..SUM]) + sum_of(lines) + remainder;
+    let sum = u32::from(number_at(block, SUM));
+    (sum == others % SUM_MODULUS) & (remainder == 0) & whole_lines(lines)
+}
+
+// The number of the two bytes at a place, low byte first.
+fn number_at(block: &[u8], place: usize) -> u16
+    requires { place + 1 < length block.now }
+    ensures { result ≡ number_at place block.now }
+{
+    u16::from_le_bytes([block[place], block[place + 1]])
+}
+
+fn whole_lines(bytes: &[u8]) -> bool
+    ensures { result ≡ whole_lines bytes.now }
+{
+    match bytes.last() {
+        Some(&last) => last == LINE_END,
+        None => true,
+    }
+}
+
+fn sum_of(bytes: &[u8]) -> u32
+    requires { length bytes.now ≤ 508 }
+    ensures sum { result ≡ sum bytes.now }
+    ensures most { result ≤ 255 * length bytes.now }
+{
+    let mut sum = 0;
+    for &byte in bytes {
+        sum += u32::from(byte);
+    }
+    sum
+}

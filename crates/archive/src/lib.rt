@@ -1,0 +1,118 @@
+// Archived schedules: lines, each ended by byte 10, in blocks of 512 bytes, so that one bad block costs its own lines alone.
+// Document 02, #107.
+#![tactic(auto)]
+
+ghost use Rattle.std.specs.Prelude.{◌≡◌, ◌/◌, length};
+ghost use Rattle.buffer.specs.Overwrite.{overwrite};
+ghost use Rattle.basis.specs.Refusal.{numbered};
+ghost use Rattle.archive.specs.Entry.{block_count, blocks_written, buffer_written, archived};
+ghost use Rattle.archive.specs.Packing.{contents, archive_of};
+ghost use Rattle.archive.specs.Stream.{first_length, packed_length, packed_of};
+
+mod block;
+
+pub use block::read_block;
+
+use basis::Refusal;
+use block::{BLOCK, CAPACITY};
+use memchr::memrchr;
+
+const LINE_END: u8 = b'\n';
+
+// What the functions of the C interface return: `wallcheck_archived` in the header.
+#[repr(C)]
+#[derive(Clone, Copy, Debug, PartialEq, Eq)]
+pub struct Archived {
+    // 0, or why a text or a block is refused.
+    pub refusal: u64,
+    // How many blocks a text takes, or how many bytes a block yields.
+    pub count: u64,
+}
+
+impl From<Result<usize, Refusal>> for Archived {
+    ghost from_gives = { λ answer given. given ≡ archived (numbered answer) };
+
+    fn from(answer: Result<usize, Refusal>) -> Archived {
+        match answer {
+            Ok(count) => Archived {
+                refusal: 0,
+                count: count as u64,
+            },
+            Err(refusal) => Archived {
+                refusal: u64::from(refusal),
+                count: 0,
+            },
+        }
+    }
+}
+
+// How many blocks the lines of `text` take.
+pub fn count_blocks(text: &[u8]) -> Result<usize, Refusal>
+    ensures { numbered result ≡ block_count text.now }
+{
+    let mut taken = 0;
+    let mut count = 0;
+    while taken < text.len() {
+        let length = first_length(&text[taken..]);
+        Refusal::TextNotStored.when(length == 0)?;
+        taken += length;
+        count += 1;
+    }
+    Ok(count)
+}
+
+// Writes these blocks, one behind the other from the first byte of `out` on.
+pub fn write_blocks(text: &[u8], out: &mut [u8]) -> Result<usize, Refusal>
+    ensures count { numbered result ≡ blocks_written text.now out.old }
+    ensures buffer { out.new ≡ buffer_written text.now out.old }
+{
+    let count = count_blocks(text)?;
+    Refusal::TextNotStored.when(out.len() / BLOCK < count)?;
+    pack(text, true, out);
+    Ok(count)
+}
+
+// How far `pack` has come.
+#[derive(Clone, Copy)]
+pub struct Packed {
+    // How many bytes of the text are packed.
+    pub taken: usize,
+    // How many blocks these take.
+    pub blocks: usize,
+}
+
+// Writes the first blocks of a text, as many as `out` has room for. With `ended` nothing comes behind `text`. Else only those blocks are written whose lines
+// are known whatever comes.
+pub fn pack(text: &[u8], ended: bool, out: &mut [u8]) -> Packed
+    ensures taken { result.taken ≡ packed_length (length out.old / 512) ended text.now }
+    ensures blocks { result.blocks ≡ length (contents (packed_of (length out.old / 512) ended text.now)) }
+    ensures written { out.new ≡ overwrite out.old 0 (archive_of (packed_of (length out.old / 512) ended text.now)) }
+{
+    let mut taken = 0;
+    let mut blocks = 0;
+    for k in 0..out.len() / BLOCK {
+        let rest = &text[taken..];
+        if !ended && rest.len() < CAPACITY {
+            break;
+        }
+        let length = first_length(rest);
+        if length == 0 {
+            break;
+        }
+        block::write_block(&rest[..length], &mut out[BLOCK * k..BLOCK * (k + 1)]);
+        taken += length;
+        blocks += 1;
+    }
+    Packed { taken, blocks }
+}
+
+// How many bytes the first block of a text takes: of the first 508 those that are whole lines.
+fn first_length(text: &[u8]) -> usize
+    ensures { result ≡ first_length text.now }
+{
+    let front = &text[..text.len().min(CAPACITY)];
+    match memrchr(LINE_END, front) {
+        Some(end) => end + 1,
+        None => 0,
+    }
+}
