@@ -1,4 +1,6 @@
 -- Laws of the packing of a text, and of blocks; the claims.
 pub mod Lines
 pub mod Packing
+pub mod Counting
+pub mod Settled
 pub mod BlockParts

@@ -1,5 +1,6 @@
 -- What is packed of the bytes at hand, wherever an input is cut into pieces, and that the pieces make up its archive.
-use Rattle.std.specs.Prelude.{ℕ, zero, suc, ◌+◌, ◌≤◌, Bool, true, false, ◌||◌, cond, List, [], ◌∷◌, ◌++◌, ◌≡◌, leb, length, take, drop}
+use Rattle.std.specs.Prelude.{ℕ, zero, suc, ◌+◌, ◌≤◌, Bool, true, false, ◌||◌, cond, List, [], ◌∷◌, ◌++◌, ◌≡◌, eqb, leb, length, take, drop}
+use Rattle.std.specs.List.{count_by}
 use Rattle.text.specs.LineEnd.{ended}
 use Rattle.archive.specs.Packing.{storable, archive_of}
 
@@ -7,6 +8,10 @@ use Rattle.archive.specs.Packing.{storable, archive_of}
 unfoldable pub last_end : List ℕ → ℕ
 last_end [] = 0
 last_end (byte ∷ bytes) = cond (ended (byte ∷ bytes)) (suc (last_end bytes)) 0
+
+-- How many bytes are byte 10: of whole lines, how many lines.
+abbrev pub line_ends : List ℕ → ℕ
+line_ends = count_by (λ byte. eqb byte 10)
 
 -- How many bytes the first block takes: of the first 508 those that are whole lines.
 abbrev pub first_length : List ℕ → ℕ

@@ -7,7 +7,7 @@ ghost use Rattle.buffer.specs.Overwrite.{overwrite};
 ghost use Rattle.basis.specs.Refusal.{numbered};
 ghost use Rattle.archive.specs.Entry.{block_count, blocks_written, buffer_written, archived};
 ghost use Rattle.archive.specs.Packing.{contents, archive_of};
-ghost use Rattle.archive.specs.Stream.{first_length, packed_length, packed_of};
+ghost use Rattle.archive.specs.Stream.{first_length, line_ends, packed_length, packed_of};
 
 mod block;
 
@@ -54,7 +54,9 @@ pub fn count_blocks(text: &[u8]) -> Result<usize, Refusal>
     let mut count = 0;
     while taken < text.len() {
         let length = first_length(&text[taken..]);
-        Refusal::TextNotStored.when(length == 0)?;
+        if length == 0 {
+            return Err(Refusal::TextNotStored);
+        }
         taken += length;
         count += 1;
     }
@@ -90,20 +92,34 @@ pub fn pack(text: &[u8], ended: bool, out: &mut [u8]) -> Packed
 {
     let mut taken = 0;
     let mut blocks = 0;
-    for k in 0..out.len() / BLOCK {
+    while blocks < out.len() / BLOCK {
         let rest = &text[taken..];
-        if !ended && rest.len() < CAPACITY {
+        if !ended & (rest.len() < CAPACITY) {
             break;
         }
         let length = first_length(rest);
         if length == 0 {
             break;
         }
-        block::write_block(&rest[..length], &mut out[BLOCK * k..BLOCK * (k + 1)]);
+        let place = BLOCK * blocks;
+        block::write_block(&rest[..length], &mut out[place..place + BLOCK]);
         taken += length;
         blocks += 1;
     }
     Packed { taken, blocks }
+}
+
+// How many bytes of `text` are the end of a line.
+pub fn count_line_ends(text: &[u8]) -> usize
+    ensures { result ≡ line_ends text.now }
+{
+    let mut count = 0;
+    for &byte in text {
+        if byte == LINE_END {
+            count += 1;
+        }
+    }
+    count
 }
 
 // How many bytes the first block of a text takes: of the first 508 those that are whole lines.
