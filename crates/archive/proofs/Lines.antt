@@ -61,7 +61,7 @@ last_end_append (byte ∷ a) b e =
     let some : ended (byte ∷ (a ++ b)) ≡ true = ended_append (byte ∷ a) b ∙ rw e (or-true (ended (byte ∷ a))) in
     rw some (omega (arith, last_end_append a b e))
 
-last_end_unended_behind : (a b : List ℕ) → ended b ≡ false → last_end (a ++ b) ≡ last_end a
+pub last_end_unended_behind : (a b : List ℕ) → ended b ≡ false → last_end (a ++ b) ≡ last_end a
 unfolding last_end ended
 last_end_unended_behind [] b e = last_end_unended b e
 last_end_unended_behind (byte ∷ a) b e =

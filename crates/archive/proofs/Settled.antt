@@ -7,13 +7,16 @@ use mathlib.Core.Bool.{Bool, true, false, cond}
 use mathlib.Core.List.{List, [], ◌∷◌, ◌++◌}
 use mathlib.Core.Path.{◌≡◌, refl, sym, ap, ◌∙◌}
 use lib.Dec.{leb}
-use lib.ListN.{length, take, drop, length-append, length-drop, take-append-drop}
-use lib.Seq.{take-add, drop-drop, take-nil}
+use lib.ListN.{length, length-replicate, take, drop, length-append, length-drop, length-take, take-append-drop}
+use lib.Seq.{take-add, take-length, take-take, drop-drop, take-nil}
+use Rattle.std.proofs.lemmas.List.{take_all, drop-take}
+use Rattle.std.specs.Prelude.{flat_map, replicate}
 use Rattle.text.specs.LineEnd.{ended}
 use Rattle.basis.proofs.Choice.{cond_cases}
+use Rattle.archive.specs.Block.{two_bytes, block_of}
 use Rattle.archive.specs.Packing.{storable, contents, archive_of}
 use Rattle.archive.specs.Stream.{last_end, first_length, settled, packed_length, packed_of}
-use Rattle.archive.proofs.Lines.{last_end_unended_behind, unended_take}
+use Rattle.archive.proofs.Lines.{last_end_most, last_end_unended_behind, unended_take}
 use Rattle.archive.proofs.Packing.{storable_none, first_leaves, first_none, first_contents, contents_none}
 use Rattle.archive.proofs.Counting.{first_most}
 
@@ -21,11 +24,7 @@ use Rattle.archive.proofs.Counting.{first_most}
 drop_last_end : (l : List ℕ) → ended (drop (last_end l) l) ≡ false
 unfolding last_end ended
 drop_last_end [] = refl
-drop_last_end (byte ∷ l) = step (ended (byte ∷ l)) refl
-  where
-    step : (b : Bool) → ended (byte ∷ l) ≡ b → ended (drop (cond b (suc (last_end l)) 0) (byte ∷ l)) ≡ false
-    step true e = drop_last_end l
-    step false e = e
+drop_last_end (byte ∷ l) = cond_cases (λ n. ended (drop n (byte ∷ l)) ≡ false) (ended (byte ∷ l)) (λ _. drop_last_end l) (λ e. e)
 
 -- So many bytes are the whole lines and bytes without an end.
 last_end_take : (l : List ℕ) (k : ℕ) → last_end l ≤ k → last_end (take k l) ≡ last_end (take (last_end l) l)
@@ -36,15 +35,27 @@ last_end_take l k h =
     rw (whole, take-add n behind l)
     (last_end_unended_behind (take n l) (take behind (drop n l)) (unended_take (drop n l) behind (drop_last_end l)))
 
+last_end_kept : (l : List ℕ) (k : ℕ) → last_end l ≤ k → last_end (take k l) ≡ last_end l
+last_end_kept l k h =
+    let all = last_end_take l (length l) (last_end_most l) in
+    last_end_take l k h ∙ sym all ∙ ap last_end (take-length l)
+
+-- Of a part that has the first block's lines, the first block takes the same.
 pub first_prefix : (l : List ℕ) (k : ℕ) → first_length l ≤ k → first_length (take k l) ≡ first_length l
-first_prefix l k h = ?
+first_prefix l k h =
+    elim (dec_le 508 k) [
+      | yes most ↦ ap last_end (take-take 508 k l most)
+      | no few ↦
+          let size : length (take k l) ≤ 508 = omega (arith, length-take k l) in
+          ap last_end (take_all 508 (take k l) size ∙ sym (take-take k 508 l (omega arith))) ∙ last_end_kept (take 508 l) k h
+    ]
 
 -- ── what is packed ──
 packed_none : (most : ℕ) (ended· : Bool) (bytes : List ℕ) → first_length bytes ≡ 0 → packed_length most ended· bytes ≡ 0
 unfolding packed_length
 packed_none zero ended· bytes none = refl
 packed_none (suc most) ended· bytes none =
-    cond_cases (λ n. n ≡ 0) (settled ended· bytes) (λ _. rw none (packed_none most ended· bytes none)) (λ _. refl)
+    cond_cases (λ n. n ≡ 0) (settled ended· bytes) (λ _. rw none (zero-add (packed_length most ended· bytes) ∙ packed_none most ended· bytes none)) (λ _. refl)
 
 packed_unsettled : (most : ℕ) (ended· : Bool) (bytes : List ℕ) → settled ended· bytes ≡ false → packed_length most ended· bytes ≡ 0
 unfolding packed_length
@@ -56,3 +67,96 @@ packed_more :
     → packed_length (suc most) ended· bytes ≡ first_length bytes + packed_length most ended· (drop (first_length bytes) bytes)
 unfolding packed_length
 packed_more most ended· bytes known = rw known refl
+
+-- A part of a text, from its beginning: the lines of the first block and more.
+part_first : (l : List ℕ) (m : ℕ) → first_length (take (first_length l + m) l) ≡ first_length l
+part_first l m = first_prefix l (first_length l + m) (omega arith)
+
+part_behind : (l : List ℕ) (m : ℕ) → drop (first_length l) (take (first_length l + m) l) ≡ take m (drop (first_length l) l)
+part_behind l m = drop-take (first_length l) m l
+
+part_front : (l : List ℕ) (m : ℕ) → take (first_length l) (take (first_length l + m) l) ≡ take (first_length l) l
+part_front l m = take-take (first_length l) (first_length l + m) l (omega arith)
+
+part_storable : (l : List ℕ) (m : ℕ) → storable (take m (drop (first_length l) l)) ≡ true → storable (take (first_length l + m) l) ≡ true
+part_storable l m s =
+    sym (first_leaves (take (first_length l + m) l)) ∙ ap (λ n. storable (drop n (take (first_length l + m) l))) (part_first l m)
+    ∙ ap storable (part_behind l m) ∙ s
+
+part_contents :
+    (l : List ℕ) (m : ℕ) → (first_length l ≡ 0 → ⊥) → storable (take m (drop (first_length l) l)) ≡ true
+    → contents (take (first_length l + m) l) ≡ take (first_length l) l ∷ contents (take m (drop (first_length l) l))
+part_contents l m some s =
+    let part = take (first_length l + m) l in
+    let size : first_length l ≤ length part = omega (arith, first_most part, part_first l m) in
+    let blocks = first_contents part (part_storable l m s) (omega (arith, size, some)) in
+    rw (part_first l m, part_front l m, part_behind l m) at blocks
+
+-- Nothing is packed; or the first block, and what is packed behind it.
+packed_cases :
+    (most : ℕ) (ended· : Bool) (bytes : List ℕ) (P : ℕ → Type 0) → P 0
+    → ((first_length bytes ≡ 0 → ⊥) → P (first_length bytes + packed_length most ended· (drop (first_length bytes) bytes))) → P (packed_length (suc most) ended· bytes)
+unfolding packed_length
+packed_cases most ended· bytes P none more =
+    elim (ℕ_discrete (first_length bytes) 0) [
+      | yes is ↦ rw (packed_none (suc most) ended· bytes is) none
+      | no some ↦ cond_cases P (settled ended· bytes) (λ _. more some) (λ _. none)
+    ]
+
+-- What is packed can be stored, whatever comes behind it.
+pub packed_storable : (most : ℕ) (ended· : Bool) (bytes : List ℕ) → storable (packed_of most ended· bytes) ≡ true
+unfolding packed_length
+packed_storable zero ended· bytes = storable_none
+packed_storable (suc most) ended· bytes =
+    let behind = packed_storable most ended· (drop (first_length bytes) bytes) in
+    packed_cases most ended· bytes (λ n. storable (take n bytes) ≡ true) storable_none
+    (λ some. part_storable bytes (packed_length most ended· (drop (first_length bytes) bytes)) behind)
+
+-- The blocks of what is packed: none; or the first block, and those behind it.
+pub packed_blocks :
+    (most : ℕ) (ended· : Bool) (bytes : List ℕ) (P : List (List ℕ) → Type 0) → P []
+    → ((first_length bytes ≡ 0 → ⊥) → P (take (first_length bytes) bytes ∷ contents (packed_of most ended· (drop (first_length bytes) bytes))))
+    → P (contents (packed_of (suc most) ended· bytes))
+packed_blocks most ended· bytes P none more =
+    packed_cases most ended· bytes (λ n. P (contents (take n bytes))) (rw contents_none none)
+    (λ some.
+    let behind = drop (first_length bytes) bytes in
+    rw (part_contents bytes (packed_length most ended· behind) some (packed_storable most ended· behind)) (more some))
+
+pub packed_few : (most : ℕ) (ended· : Bool) (bytes : List ℕ) → length (contents (packed_of most ended· bytes)) ≤ most
+unfolding packed_length
+packed_few zero ended· bytes = rw contents_none (omega arith)
+packed_few (suc most) ended· bytes =
+    packed_blocks most ended· bytes (λ b. length b ≤ suc most) (omega arith)
+    (λ _. omega (arith, packed_few most ended· (drop (first_length bytes) bytes)))
+
+-- ── how many bytes the blocks have ──
+two_bytes_length : (n : ℕ) → length (two_bytes n) ≡ 2
+unfolding two_bytes
+two_bytes_length n = refl
+
+pub block_length : (lines : List ℕ) → length lines ≤ 508 → length (block_of lines) ≡ 512
+unfolding block_of two_bytes
+block_length lines fits =
+    let zeros : List ℕ = replicate (508 - length lines) 0 in
+    omega (arith, length-append lines zeros, length-replicate {A = ℕ} (508 - length lines) 0)
+
+first_short : (bytes : List ℕ) → length (take (first_length bytes) bytes) ≤ 508
+first_short bytes = omega (arith, length-take (first_length bytes) bytes, last_end_most (take 508 bytes), length-take 508 bytes)
+
+pub packed_length_of :
+    (most : ℕ) (ended· : Bool) (bytes : List ℕ)
+    → length (archive_of (packed_of most ended· bytes)) ≡ 512 * length (contents (packed_of most ended· bytes))
+unfolding packed_length archive_of
+packed_length_of zero ended· bytes = rw contents_none refl
+packed_length_of (suc most) ended· bytes =
+    let behind = contents (packed_of most ended· (drop (first_length bytes) bytes)) in
+    let first = take (first_length bytes) bytes in
+    packed_blocks most ended· bytes (λ b. length (flat_map block_of b) ≡ 512 * length b) refl
+    (λ _.
+    omega (
+      arith,
+      length-append (block_of first) (flat_map block_of behind),
+      block_length first (first_short bytes),
+      packed_length_of most ended· (drop (first_length bytes) bytes),
+    ))
