@@ -1,7 +1,7 @@
 -- The count of the blocks of a text, block by block.
 use Prim.Native.Nat.{ℕ, ◌+◌, ◌-◌, ◌≤◌, ◌<◌}
 use native.Mathlib.Omega.{arith}
-use mathlib.Core.Bool.{true, false, cond}
+use mathlib.Core.Bool.{true}
 use mathlib.Core.List.{List, []}
 use mathlib.Core.Path.{◌≡◌, refl, sym, ap, ◌∙◌}
 use lib.ListN.{length, take, drop, length-drop, length-take, drop_of_length-le}
@@ -38,9 +38,9 @@ counted_more {text} {taken} {count} {n} c more is some =
       few = omega (arith, c.few, some);
       same = sym (ap storable behind) ∙ rw (← is) at (first_leaves rest) ∙ c.same;
       others =
-        λ s.
-        let first = ap length (first_contents rest (c.same ∙ s) (omega (arith, size))) in
-        c.others s ∙ omega (arith, rw (← is) at first, ap (λ t. length (contents t)) behind);
+          λ s.
+          let first = ap length (first_contents rest (c.same ∙ s) (omega (arith, size))) in
+          c.others s ∙ omega (arith, rw (← is) at first, ap (λ t. length (contents t)) behind);
     }
 
 pub counted_all : {text : List ℕ} {taken count : ℕ} → Counted text taken count → length text ≤ taken → Ok count ≡ block_count text

@@ -3,4 +3,6 @@ pub mod Lines
 pub mod Packing
 pub mod Counting
 pub mod Settled
+pub mod Placed
+pub mod Storing
 pub mod BlockParts

@@ -1,23 +1,21 @@
 -- Laws of the whole lines that a text begins with.
-use Prim.Native.Nat.{ℕ, zero, suc, ◌+◌, ◌-◌, ◌≤◌, ◌<◌, min}
-use native.Mathlib.Decide.{dec_le, ℕ_discrete}
-use native.Mathlib.Nat.{add_assoc, min_comm}
+use Prim.Native.Nat.{ℕ, zero, suc, ◌+◌, ◌≤◌, ◌<◌, min}
+use native.Mathlib.Nat.{min_comm}
 use native.Mathlib.Numerals.{add-one}
 use native.Mathlib.Omega.{arith}
 use mathlib.Core.Bool.{Bool, true, false, false≢true, cond, ◌||◌, or-true, or-false}
-use mathlib.Core.List.{List, [], ◌∷◌, ◌++◌, append_assoc, append-nil}
+use mathlib.Core.List.{List, [], ◌∷◌, ◌++◌}
 use mathlib.Core.Path.{◌≡◌, refl, sym, ap, ◌∙◌}
-use lib.ListN.{length, take, drop, get_or, length-append, length-drop, take-append-drop}
-use lib.Seq.{take-append-add, take-append_seam, drop-append-add, drop-cons, length-take-le}
+use lib.ListN.{length, take, drop, get_or, length-append, take-append-drop}
+use lib.Seq.{take-append-add, drop-cons, length-take-le}
 use lib.Dec.{eqb}
-use Rattle.std.proofs.Common.{Option, None, Some}
-use Rattle.std.specs.Option.{MatchOption}
+use Rattle.std.proofs.Common.{None, Some}
 use borrow.Author.Tests.{eq-eqb, ne_eqb, eqb-true}
 use Rattle.std.proofs.lemmas.List.{take-append-le, take_min}
 use Rattle.memchr.specs.Find.{IsLastByte, Nowhere, Passes, is_byte}
 use Rattle.basis.proofs.Choice.{cond_cases}
 use Rattle.text.specs.LineEnd.{ended}
-use Rattle.text.proofs.LineEnd.{ended_append, ended_line, ended_cases, line_cases}
+use Rattle.text.proofs.LineEnd.{ended_append, ended_cases, line_cases}
 use Rattle.archive.specs.Stream.{last_end}
 
 -- ── by lines ──

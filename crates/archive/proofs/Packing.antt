@@ -3,14 +3,14 @@ use Prim.Native.Nat.{ℕ, zero, suc, ◌+◌, ◌-◌, ◌≤◌, ◌<◌}
 use native.Mathlib.Decide.{dec_le}
 use native.Mathlib.Nat.{zero-add}
 use native.Mathlib.Omega.{arith}
-use mathlib.Core.Bool.{Bool, true, false, false≢true, cond, ◌&&◌, or-true}
+use mathlib.Core.Bool.{Bool, true, false, false≢true, ◌&&◌, or-true}
 use mathlib.Core.List.{List, [], ◌∷◌, ◌++◌, append_assoc, append-nil}
 use mathlib.Core.Path.{◌≡◌, refl, sym, ap, ◌∙◌}
 use lib.Dec.{eqb, leb}
 use lib.ListN.{length, take, drop, get_or, length-append}
 use lib.Seq.{take-append-add, drop-append-add, get_or-append_seam, take-nil, drop-nil}
 use Rattle.std.proofs.lemmas.List.{get_or-append-add}
-use borrow.Author.Tests.{eq-eqb, ne_eqb, eqb-true, le-leb, lt-leb}
+use borrow.Author.Tests.{eq-eqb, ne_eqb, le-leb, lt-leb}
 use Rattle.std.specs.List.{list_all}
 use Rattle.basis.proofs.Choice.{and_left}
 use Rattle.text.specs.LineEnd.{ended, lines_of}

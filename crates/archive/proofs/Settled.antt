@@ -1,14 +1,13 @@
 -- Laws of what is packed of the bytes at hand.
-use Prim.Native.Nat.{ℕ, zero, suc, ◌+◌, ◌-◌, ◌*◌, ◌/◌, ◌≤◌, ◌<◌}
+use Prim.Native.Nat.{ℕ, zero, suc, ◌+◌, ◌-◌, ◌*◌, ◌≤◌}
 use native.Mathlib.Decide.{dec_le, ℕ_discrete}
-use native.Mathlib.Nat.{zero-add, add-zero}
+use native.Mathlib.Nat.{zero-add}
 use native.Mathlib.Omega.{arith}
-use mathlib.Core.Bool.{Bool, true, false, cond}
-use mathlib.Core.List.{List, [], ◌∷◌, ◌++◌}
+use mathlib.Core.Bool.{Bool, true, false}
+use mathlib.Core.List.{List, [], ◌∷◌}
 use mathlib.Core.Path.{◌≡◌, refl, sym, ap, ◌∙◌}
-use lib.Dec.{leb}
-use lib.ListN.{length, length-replicate, take, drop, length-append, length-drop, length-take, take-append-drop}
-use lib.Seq.{take-add, take-length, take-take, drop-drop, take-nil}
+use lib.ListN.{length, length-replicate, take, drop, length-append, length-take}
+use lib.Seq.{take-add, take-length, take-take}
 use Rattle.std.proofs.lemmas.List.{take_all, drop-take}
 use Rattle.std.specs.Prelude.{flat_map, replicate}
 use Rattle.text.specs.LineEnd.{ended}
@@ -17,7 +16,7 @@ use Rattle.archive.specs.Block.{two_bytes, block_of}
 use Rattle.archive.specs.Packing.{storable, contents, archive_of}
 use Rattle.archive.specs.Stream.{last_end, first_length, settled, packed_length, packed_of}
 use Rattle.archive.proofs.Lines.{last_end_most, last_end_unended_behind, unended_take}
-use Rattle.archive.proofs.Packing.{storable_none, first_leaves, first_none, first_contents, contents_none}
+use Rattle.archive.proofs.Packing.{storable_none, first_leaves, first_contents, contents_none}
 use Rattle.archive.proofs.Counting.{first_most}
 
 -- ── the first block of a part ──
@@ -51,18 +50,18 @@ first_prefix l k h =
     ]
 
 -- ── what is packed ──
-packed_none : (most : ℕ) (ended· : Bool) (bytes : List ℕ) → first_length bytes ≡ 0 → packed_length most ended· bytes ≡ 0
+pub packed_none : (most : ℕ) (ended· : Bool) (bytes : List ℕ) → first_length bytes ≡ 0 → packed_length most ended· bytes ≡ 0
 unfolding packed_length
 packed_none zero ended· bytes none = refl
 packed_none (suc most) ended· bytes none =
     cond_cases (λ n. n ≡ 0) (settled ended· bytes) (λ _. rw none (zero-add (packed_length most ended· bytes) ∙ packed_none most ended· bytes none)) (λ _. refl)
 
-packed_unsettled : (most : ℕ) (ended· : Bool) (bytes : List ℕ) → settled ended· bytes ≡ false → packed_length most ended· bytes ≡ 0
+pub packed_unsettled : (most : ℕ) (ended· : Bool) (bytes : List ℕ) → settled ended· bytes ≡ false → packed_length most ended· bytes ≡ 0
 unfolding packed_length
 packed_unsettled zero ended· bytes open· = refl
 packed_unsettled (suc most) ended· bytes open· = rw open· refl
 
-packed_more :
+pub packed_more :
     (most : ℕ) (ended· : Bool) (bytes : List ℕ) → settled ended· bytes ≡ true
     → packed_length (suc most) ended· bytes ≡ first_length bytes + packed_length most ended· (drop (first_length bytes) bytes)
 unfolding packed_length
@@ -83,7 +82,7 @@ part_storable l m s =
     sym (first_leaves (take (first_length l + m) l)) ∙ ap (λ n. storable (drop n (take (first_length l + m) l))) (part_first l m)
     ∙ ap storable (part_behind l m) ∙ s
 
-part_contents :
+pub part_contents :
     (l : List ℕ) (m : ℕ) → (first_length l ≡ 0 → ⊥) → storable (take m (drop (first_length l) l)) ≡ true
     → contents (take (first_length l + m) l) ≡ take (first_length l) l ∷ contents (take m (drop (first_length l) l))
 part_contents l m some s =
@@ -141,8 +140,11 @@ block_length lines fits =
     let zeros : List ℕ = replicate (508 - length lines) 0 in
     omega (arith, length-append lines zeros, length-replicate {A = ℕ} (508 - length lines) 0)
 
-first_short : (bytes : List ℕ) → length (take (first_length bytes) bytes) ≤ 508
-first_short bytes = omega (arith, length-take (first_length bytes) bytes, last_end_most (take 508 bytes), length-take 508 bytes)
+pub first_capacity : (bytes : List ℕ) → first_length bytes ≤ 508
+first_capacity bytes = omega (arith, last_end_most (take 508 bytes), length-take 508 bytes)
+
+pub first_short : (bytes : List ℕ) → length (take (first_length bytes) bytes) ≤ 508
+first_short bytes = omega (arith, length-take (first_length bytes) bytes, first_capacity bytes)
 
 pub packed_length_of :
     (most : ℕ) (ended· : Bool) (bytes : List ℕ)

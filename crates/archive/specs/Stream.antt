@@ -1,8 +1,10 @@
 -- What is packed of the bytes at hand, wherever an input is cut into pieces, and that the pieces make up its archive.
-use Rattle.std.specs.Prelude.{ℕ, zero, suc, ◌+◌, ◌≤◌, Bool, true, false, ◌||◌, cond, List, [], ◌∷◌, ◌++◌, ◌≡◌, eqb, leb, length, take, drop}
+use Rattle.std.specs.Prelude.{ℕ, zero, suc, ◌+◌, ◌/◌, Bool, ◌||◌, cond, List, [], ◌∷◌, eqb, leb, length, take, drop}
 use Rattle.std.specs.List.{count_by}
 use Rattle.text.specs.LineEnd.{ended}
-use Rattle.archive.specs.Packing.{storable, archive_of}
+use Rattle.buffer.specs.Overwrite.{overwrite}
+use Rattle.archive.specs.declared.Packed.{Packed}
+use Rattle.archive.specs.Packing.{contents, archive_of}
 
 -- How many bytes stand up to and including the last byte 10; 0 where there is none.
 unfoldable pub last_end : List ℕ → ℕ
@@ -32,3 +34,16 @@ packed_of most ended· bytes = take (packed_length most ended· bytes) bytes
 
 abbrev pub unpacked_of : ℕ → Bool → List ℕ → List ℕ
 unpacked_of most ended· bytes = drop (packed_length most ended· bytes) bytes
+
+-- What `pack` hands back and leaves in the buffer: as many blocks as it has room for.
+pub record PackedInto : Type 0 where
+  pub packed : Packed
+  pub buffer : List ℕ
+
+unfoldable pub packed_into : Bool → List ℕ → List ℕ → PackedInto
+packed_into ended· bytes buffer =
+    let most = length buffer / 512 in
+    record {
+      packed = record { taken = packed_length most ended· bytes; blocks = length (contents (packed_of most ended· bytes)) };
+      buffer = overwrite buffer 0 (archive_of (packed_of most ended· bytes));
+    }

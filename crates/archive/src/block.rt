@@ -11,7 +11,9 @@ pub(crate) const BLOCK: usize = 512;
 
 // The lines begin behind the number of bytes used and the sum, of two bytes each.
 const COUNT: usize = 0;
+
 const SUM: usize = 2;
+
 const LINES: usize = 4;
 
 // How many bytes of lines a block holds at most.

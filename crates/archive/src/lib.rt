@@ -2,18 +2,15 @@
 // Document 02, #107.
 #![tactic(auto)]
 
-ghost use Rattle.std.specs.Prelude.{◌≡◌, ◌/◌, length};
-ghost use Rattle.buffer.specs.Overwrite.{overwrite};
+ghost use Rattle.std.specs.Prelude.{◌≡◌};
 ghost use Rattle.basis.specs.Refusal.{numbered};
-ghost use Rattle.archive.specs.Entry.{block_count, blocks_written, buffer_written, archived};
-ghost use Rattle.archive.specs.Packing.{contents, archive_of};
-ghost use Rattle.archive.specs.Stream.{first_length, line_ends, packed_length, packed_of};
+ghost use Rattle.archive.specs.Entry.{block_count, stored, archived};
+ghost use Rattle.archive.specs.Stream.{first_length, line_ends, packed_into};
 
 mod block;
 
-pub use block::read_block;
-
 use basis::Refusal;
+pub use block::read_block;
 use block::{BLOCK, CAPACITY};
 use memchr::memrchr;
 
@@ -65,11 +62,14 @@ pub fn count_blocks(text: &[u8]) -> Result<usize, Refusal>
 
 // Writes these blocks, one behind the other from the first byte of `out` on.
 pub fn write_blocks(text: &[u8], out: &mut [u8]) -> Result<usize, Refusal>
-    ensures count { numbered result ≡ blocks_written text.now out.old }
-    ensures buffer { out.new ≡ buffer_written text.now out.old }
+    ensures { record { answer = numbered result; buffer = out.new } ≡ stored text.now out.old }
 {
-    let count = count_blocks(text)?;
-    Refusal::TextNotStored.when(out.len() / BLOCK < count)?;
+    let Ok(count) = count_blocks(text) else {
+        return Err(Refusal::TextNotStored);
+    };
+    if out.len() / BLOCK < count {
+        return Err(Refusal::TextNotStored);
+    }
     pack(text, true, out);
     Ok(count)
 }
@@ -86,15 +86,14 @@ pub struct Packed {
 // Writes the first blocks of a text, as many as `out` has room for. With `ended` nothing comes behind `text`. Else only those blocks are written whose lines
 // are known whatever comes.
 pub fn pack(text: &[u8], ended: bool, out: &mut [u8]) -> Packed
-    ensures taken { result.taken ≡ packed_length (length out.old / 512) ended text.now }
-    ensures blocks { result.blocks ≡ length (contents (packed_of (length out.old / 512) ended text.now)) }
-    ensures written { out.new ≡ overwrite out.old 0 (archive_of (packed_of (length out.old / 512) ended text.now)) }
+    ensures { record { packed = result; buffer = out.new } ≡ packed_into ended text.now out.old }
 {
     let mut taken = 0;
     let mut blocks = 0;
     while blocks < out.len() / BLOCK {
         let rest = &text[taken..];
-        if !ended & (rest.len() < CAPACITY) {
+        let settled = ended | (rest.len() >= CAPACITY);
+        if !settled {
             break;
         }
         let length = first_length(rest);

@@ -3,14 +3,17 @@
 
 ghost use Rattle.std.specs.Prelude.{◌≡◌};
 ghost use Rattle.wallcheck.specs.Entry.{line_result, counted_result, cells_result, lent, edition};
+ghost use Rattle.archive.specs.Block.{read_block};
+ghost use Rattle.archive.specs.Entry.{block_count, stored, yielded_count, archived};
 ghost use Rattle.wallcheck.specs.MinimumLoad.{minimum_load_line, minimum_load_cells};
 
+use archive::Archived;
 use basis::CheckResult;
 use wallcheck::storey_checks::MinimumLoad;
 use wallcheck::{Checked, CountedResult};
 use worksheet::cells::Cells;
 
-const EDITION: u64 = 106;
+const EDITION: u64 = 107;
 
 // Which rules a result is computed by. Offices file it with their results.
 #[unsafe(no_mangle)]
@@ -91,4 +94,29 @@ pub extern "C" fn wallcheck_minimum_load_row_into(
     ensures { record { result = result; buffer = out.new } ≡ lent out.old (minimum_load_cells cells wind) }
 {
     MinimumLoad(&cells, wind).check_into(out)
+}
+
+// Document 02, #107: schedules in blocks of 512 bytes.
+
+#[unsafe(no_mangle)]
+pub extern "C" fn wallcheck_archive_count(text: &[u8]) -> Archived
+    ensures { result ≡ archived (block_count text.now) }
+{
+    Archived::from(archive::count_blocks(text))
+}
+
+#[unsafe(no_mangle)]
+pub extern "C" fn wallcheck_archive_write(text: &[u8], out: &mut [u8]) -> Archived
+    ensures answer { result ≡ archived (stored text.now out.old).answer }
+    ensures buffer { out.new ≡ (stored text.now out.old).buffer }
+{
+    Archived::from(archive::write_blocks(text, out))
+}
+
+// What the block yields begins at its byte 4.
+#[unsafe(no_mangle)]
+pub extern "C" fn wallcheck_archive_read(block: &[u8]) -> Archived
+    ensures { result ≡ archived (yielded_count (read_block block.now)) }
+{
+    Archived::from(archive::read_block(block).map(|lines| lines.len()))
 }

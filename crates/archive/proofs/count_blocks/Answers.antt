@@ -2,7 +2,7 @@
 use Rattle.std.proofs.Common.{arith, ap, drop, ◌≡◌, ◌∙◌}
 use Rattle.std.proofs.lemmas.List.{take_rest}
 use Rattle.archive.specs.Stream.{first_length}
-use Rattle.archive.proofs.Counting.{Counted, counted_none, counted_more, counted_all, counted_bad}
+use Rattle.archive.proofs.Counting.{counted_none, counted_more, counted_all, counted_bad}
 use Rattle.archive.proofs.count_blocks.Goals as goal
 use Rattle.archive.proofs.count_blocks.Goals.{After-first_length-length}
 

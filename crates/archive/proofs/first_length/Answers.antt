@@ -1,5 +1,5 @@
 -- `archive::first_length` meets its contract: the first 508 bytes, or all where there are fewer, are searched.
-use Rattle.std.proofs.Common.{ap, ◌∙◌, length}
+use Rattle.std.proofs.Common.{ap, ◌∙◌}
 use Rattle.archive.specs.Stream.{last_end}
 use Rattle.archive.proofs.Lines.{take_front, last_end_none, last_end_some}
 use Rattle.archive.proofs.first_length.Goals as goal

@@ -1,7 +1,6 @@
 -- `archive::block::read_block` meets its contract.
-use Rattle.std.proofs.Common.{arith, sym, ap, ◌∙◌, ◌≡◌}
-use Rattle.archive.specs.Block.{used}
-use Rattle.archive.proofs.BlockParts.{Sound, sound_fits, read_sound, read_refused, used_lem}
+use Rattle.std.proofs.Common.{arith, sym, ◌∙◌}
+use Rattle.archive.proofs.BlockParts.{sound_fits, read_sound, read_refused, used_lem}
 use Rattle.archive.proofs.block.read_block.Goals as goal
 
 pub returns-then-not-is_sound : goal.returns-then-not-is_sound

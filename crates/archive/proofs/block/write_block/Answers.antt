@@ -1,5 +1,5 @@
 -- `archive::block::write_block` meets its contract.
-use Rattle.std.proofs.Common.{arith, ◌≡◌}
+use Rattle.std.proofs.Common.{arith}
 use Rattle.archive.proofs.BlockParts.{block_written}
 use Rattle.archive.proofs.block.write_block.Goals as goal
 
