@@ -5,4 +5,5 @@ pub mod Counting
 pub mod Settled
 pub mod Placed
 pub mod Storing
+pub mod Claims
 pub mod BlockParts

@@ -27,11 +27,11 @@ unended_get [] i e is = omega (arith, is)
 unended_get (byte ∷ l) zero e is = false≢true (sym (rw (eq-eqb byte 10 is) at e))
 unended_get (byte ∷ l) (suc i) e is = unended_get l i (or_none_right (eqb byte 10) (ended l) e) is
 
-whole_unended : (l : List ℕ) → 0 < length l → ended l ≡ false → whole_lines l ≡ false
+pub whole_unended : (l : List ℕ) → 0 < length l → ended l ≡ false → whole_lines l ≡ false
 unfolding whole_lines
 whole_unended l some e = rw (ne_eqb (length l) 0 (omega arith), ne_eqb (get_or l (length l - 1) 0) 10 (unended_get l (length l - 1) e)) refl
 
-whole_line : (line rest : List ℕ) → whole_lines (line ++ 10 ∷ rest) ≡ whole_lines rest
+pub whole_line : (line rest : List ℕ) → whole_lines (line ++ 10 ∷ rest) ≡ whole_lines rest
 unfolding whole_lines
 whole_line line [] =
     let last : length (line ++ 10 ∷ []) - 1 ≡ length line = omega (arith, length-append line (10 ∷ [])) in
@@ -58,7 +58,7 @@ pub storable_none : storable [] ≡ true
 unfolding storable whole_lines ended_lines lines_of
 storable_none = refl
 
-storable_unended : (l : List ℕ) → 0 < length l → ended l ≡ false → storable l ≡ false
+pub storable_unended : (l : List ℕ) → 0 < length l → ended l ≡ false → storable l ≡ false
 unfolding storable
 storable_unended l some e = rw (whole_unended l some e) refl
 
