@@ -55,7 +55,7 @@ two_bytes_low : (n : ℕ) → n < 65536 → to_le_bytes w16 n ≡ two_bytes n
 unfolding two_bytes
 two_bytes_low n h = ap (λ (high : ℕ). n % 256 ∷ high ∷ []) (omega arith)
 
-sum_zeros : (n : ℕ) → sum (replicate n 0) ≡ 0
+pub sum_zeros : (n : ℕ) → sum (replicate n 0) ≡ 0
 sum_zeros n = sum_by-replicate (λ n. n) n 0 ∙ omega arith
 
 -- The lines put over the first bytes, and zeros over the others.

@@ -6,4 +6,5 @@ pub mod Settled
 pub mod Placed
 pub mod Storing
 pub mod Claims
+pub mod BlockClaims
 pub mod BlockParts
