@@ -50,16 +50,17 @@ callers: lib
 
 plain:
 	@$(CARGO_ENV) cargo build --quiet --release --offline --manifest-path bench/Cargo.toml
-	@for program in simple fast; do \
-		$(BUILD)/cargo/release/$$program <crates/schedule/stdin >$(BUILD)/$$program.out || exit 1; \
-		cmp $(BUILD)/$$program.out crates/schedule/stdout || exit 1; \
-	done
-	@echo "plain Rust: both programs print the stored expected output"
+	@for job in schedule pack unpack; do for program in simple fast; do \
+		$(BUILD)/cargo/release/$$program $$job <crates/$$job/stdin >$(BUILD)/$$program.out 2>$(BUILD)/$$program.told || \
+			[ $$? = 1 ] || exit 1; \
+		cmp $(BUILD)/$$program.out crates/$$job/stdout || { cat $(BUILD)/$$program.told; exit 1; }; \
+	done; done # status 1: something of the stored input is refused
+	@echo "plain Rust: both print the stored expected output of all three programs"
 
 bench: lib plain
-	@./schedule </dev/null
+	@./schedule </dev/null && ./pack </dev/null && ./unpack </dev/null
 	@$(CARGO_ENV) cargo build --quiet --release --offline --features library --manifest-path bench/Cargo.toml
-	@WALLCHECK_BEFORE="$(BEFORE)" $(BUILD)/cargo/release/bench $(PROGRAM)
+	@WALLCHECK_BEFORE="$(BEFORE)" $(BUILD)/cargo/release/bench $(PROGRAM) crates/pack/out/pack crates/unpack/out/unpack
 
 install: lib
 	@./schedule </dev/null

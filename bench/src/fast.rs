@@ -1,5 +1,7 @@
 //! As fast as byte by byte can be: each byte is looked at once, numbers of 64 bits, no allocation for a line.
 
+pub mod archive;
+
 use crate::{filled, refused, CheckResult, Reading, Row, LONGEST_LINE, SHORTEST_BUFFER};
 use std::io::{self, Read, Write};
 

@@ -1,9 +1,12 @@
 //! The wall check in plain Rust, without proofs, to compare speed with: `simple` as one would first
 //! write it, `fast` as fast as reading byte by byte can be made. Each has the whole program and functions for one
-//! line and one row, also of the minimum load in the top storey.
+//! line and one row, also of the minimum load in the top storey; and `archive`, with the functions and both programs
+//! of archived schedules.
 
 pub mod fast;
 pub mod simple;
+
+use std::process::ExitCode;
 
 /// The five numbers of a result.
 #[derive(Clone, Copy, Debug, Default, PartialEq, Eq)]
@@ -25,6 +28,22 @@ pub struct Reading {
 /// A worksheet row: the 19 cells in the line's order.
 pub type Row = [f64; 19];
 
+/// What the functions of the archive return.
+#[derive(Clone, Copy, Debug, Default, PartialEq, Eq)]
+pub struct Archived {
+    pub refusal: u64,
+    pub count: u64,
+}
+
+/// The length of an archive's block.
+pub const BLOCK: usize = 512;
+
+/// The lines of a block follow from this byte on.
+const HEAD: usize = 4;
+
+/// A block has room for this many bytes of lines.
+const ROOM: usize = BLOCK - HEAD;
+
 /// A line over this many bytes is refusal 1.
 const LONGEST_LINE: usize = 200;
 
@@ -38,6 +57,23 @@ fn refused(refusal: u64) -> CheckResult {
     }
 }
 
+const BAD_BLOCK: Archived = Archived {
+    refusal: 23,
+    count: 0,
+};
+
+const BAD_TEXT: Archived = Archived {
+    refusal: 24,
+    count: 0,
+};
+
+fn archived(count: usize) -> Archived {
+    Archived {
+        refusal: 0,
+        count: count as u64,
+    }
+}
+
 fn filled(refusal: u64, second: u64, load: u64, resistance: u64) -> CheckResult {
     CheckResult {
         refusal,
@@ -45,5 +81,30 @@ fn filled(refusal: u64, second: u64, load: u64, resistance: u64) -> CheckResult 
         load,
         resistance,
         spare: resistance as i64 - load as i64,
+    }
+}
+
+/// What the programs pack and unpack tell on standard error, and the status with which they then end.
+#[derive(Default)]
+pub struct Told {
+    any: bool,
+}
+
+impl Told {
+    pub fn line(&mut self, number: u64) {
+        self.tell(BAD_TEXT, "line", number);
+    }
+
+    pub fn block(&mut self, number: u64) {
+        self.tell(BAD_BLOCK, "block", number);
+    }
+
+    fn tell(&mut self, refused: Archived, what: &str, number: u64) {
+        eprintln!("refusal {}: {what} {number}", refused.refusal);
+        self.any = true;
+    }
+
+    pub fn status(&self) -> ExitCode {
+        ExitCode::from(u8::from(self.any))
     }
 }

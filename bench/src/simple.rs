@@ -1,5 +1,7 @@
 //! As one would first write it: split and parse, wide integers, a String for each result.
 
+pub mod archive;
+
 use crate::{filled, refused, CheckResult, Reading, Row, LONGEST_LINE, SHORTEST_BUFFER};
 use std::io::{self, BufRead, Write};
 

@@ -14,7 +14,7 @@ const WINDS: [u64; 5] = [0, 1, 780, 10_000, 10_001];
 /// The same for the cells of rows, and a fraction.
 const WIND_CELLS: [f64; 6] = [0.0, 1.0, 780.0, 780.5, 10_000.0, 10_001.0];
 
-/// A kind of call with the time of one call, in nanoseconds, for each of the three.
+/// A kind of call with the time of one call, in nanoseconds where nothing else is said, for each of the three.
 pub struct Times {
     pub name: &'static str,
     pub library: f64,
@@ -180,7 +180,7 @@ pub fn medians<const N: usize>(times: [Vec<f64>; N]) -> [f64; N] {
 }
 
 /// The three calls in turn in each pass, so that a busy machine slows all alike; the medians of the passes.
-fn time<T, A, B, C>(
+pub fn time<T, A, B, C>(
     name: &'static str,
     passes: usize,
     items: &[T],

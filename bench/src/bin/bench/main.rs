@@ -1,30 +1,30 @@
-//! Speed of the library and of the schedule program beside the same job in plain Rust, as ratios in one run.
+//! Speed of the library and of the programs beside the same jobs in plain Rust, as ratios in one run.
 //!
 //!     WALLCHECK_LIB_DIR=.. cargo build --release --features library
-//!     bench SCHEDULE [LINES RUNS]
+//!     bench SCHEDULE PACK UNPACK [LINES RUNS]
 //!
-//! SCHEDULE is the path of the schedule program; `simple` and `fast` stand beside this program. Without numbers a
-//! million lines are used and each program runs 15 times. Ends with status 1 if an output differs, or if a line costs
-//! more in a long schedule than in a short one.
+//! The three are the paths of those programs; `simple` and `fast` stand beside this program. Without numbers a million
+//! lines are used and each program runs 15 times. Ends with status 1 if an output differs, or if a line or a megabyte
+//! costs more in a long input than in a short one.
 //!
 //! It runs in the folder of the repository. Where WALLCHECK_BEFORE names an earlier checkout in which `make bench` has
-//! run, its library and program are compared with those of this folder, also as ratios in one run. Results that differ
-//! from the earlier ones are told and are no failure.
+//! run, its library and schedule program are compared with those of this folder, also as ratios in one run; the archive,
+//! which it may lack, is not. Results that differ from the earlier ones are told and are no failure.
 
+mod archive;
 mod before;
 mod calls;
 mod input;
+mod jobs;
 mod programs;
 
-use programs::{Program, Run};
-use std::fs;
+use jobs::{Expected, Input, Job, LINE, MEGABYTE};
+use plain::BLOCK;
+use programs::Program;
+use std::fs::{self, File};
 use std::io;
 use std::path::{Path, PathBuf};
 use std::process::exit;
-use std::time::Duration;
-
-/// A line in a schedule of all lines may cost this many times a line in one of a tenth of them; the rest is noise.
-const GROWTH_LIMIT: f64 = 1.25;
 
 /// The stored schedule, from the folder of the repository.
 const STORED: &str = "crates/schedule/stdin";
@@ -35,10 +35,23 @@ const PROGRAM: &str = "crates/schedule/out/schedule";
 /// Single calls go over this many lines.
 const CALL_LINES: usize = 100_000;
 
+/// The text of the archive's functions has this many lines, which are more than a megabyte.
+const ARCHIVE_LINES: usize = 20_000;
+
 struct Files {
     folder: PathBuf,
     long: PathBuf,
     short: PathBuf,
+    long_archive: PathBuf,
+    short_archive: PathBuf,
+}
+
+/// Writes the archive of a text from file to file, as this process is to stay small: see Program::run.
+fn write_archive(text: &Path, archive: &Path) -> io::Result<()> {
+    let output = File::create(archive)?;
+    plain::fast::archive::pack(File::open(text)?, output, |line| {
+        unreachable!("line {line} of the schedule is no line of an archive")
+    })
 }
 
 impl Files {
@@ -48,15 +61,63 @@ impl Files {
         let files = Files {
             long: folder.join("long"),
             short: folder.join("short"),
+            long_archive: folder.join("long-archive"),
+            short_archive: folder.join("short-archive"),
             folder,
         };
         input::write(&files.long, lines)?;
         input::write(&files.short, lines / 10)?;
+        write_archive(&files.long, &files.long_archive)?;
+        write_archive(&files.short, &files.short_archive)?;
         Ok(files)
     }
 
-    fn output_of(&self, program: &Program) -> PathBuf {
-        self.folder.join(format!("{}-output", program.name))
+    fn schedule(&self, programs: Vec<Program>, lines: usize) -> Job {
+        let input = |path: &Path, lines| Input {
+            path: path.into(),
+            amount: lines as f64,
+        };
+        Job {
+            programs,
+            short: input(&self.short, lines / 10),
+            long: input(&self.long, lines),
+            unit: &LINE,
+            expected: Expected::Lines(lines),
+            folder: self.folder.clone(),
+        }
+    }
+
+    /// The job of pack or unpack.
+    fn archive(
+        &self,
+        programs: Vec<Program>,
+        [short, long, expected]: [&Path; 3],
+    ) -> io::Result<Job> {
+        let input = |path: &Path| {
+            Ok::<_, io::Error>(Input {
+                path: path.into(),
+                amount: fs::metadata(path)?.len() as f64 / 1e6,
+            })
+        };
+        Ok(Job {
+            programs,
+            short: input(short)?,
+            long: input(long)?,
+            unit: &MEGABYTE,
+            expected: Expected::File(expected.into()),
+            folder: self.folder.clone(),
+        })
+    }
+
+    fn pack(&self, programs: Vec<Program>) -> io::Result<Job> {
+        self.archive(programs, [&self.short, &self.long, &self.long_archive])
+    }
+
+    fn unpack(&self, programs: Vec<Program>) -> io::Result<Job> {
+        self.archive(
+            programs,
+            [&self.short_archive, &self.long_archive, &self.long],
+        )
     }
 }
 
@@ -66,72 +127,16 @@ impl Drop for Files {
     }
 }
 
-fn median(runs: &[Run], of: impl Fn(&Run) -> Duration) -> f64 {
-    let mut times: Vec<Duration> = runs.iter().map(of).collect();
-    times.sort();
-    times[times.len() / 2].as_secs_f64()
-}
-
-/// The runs of each program on one input, in turn, so that a busy machine slows all alike. Each round begins with another program, since what ran
-/// before leaves its mark on caches and on the files that the system has still to write.
-fn run_all(
-    programs: &[Program],
-    files: &Files,
-    input: &Path,
-    runs: usize,
-) -> io::Result<Vec<Vec<Run>>> {
-    let mut all = vec![Vec::new(); programs.len()];
-    for round in 0..runs {
-        for turn in 0..programs.len() {
-            let which = (round + turn) % programs.len();
-            let program = &programs[which];
-            all[which].push(program.run(input, &files.output_of(program))?);
-        }
-    }
-    Ok(all)
-}
-
-fn print_programs(programs: &[Program], runs: &[Vec<Run>], lines: usize) {
-    println!(
-        "whole program, {lines} lines, median of {} runs",
-        runs[0].len()
-    );
-    let times: Vec<(f64, f64)> = runs
-        .iter()
-        .map(|runs| (median(runs, |run| run.wall), median(runs, |run| run.cpu)))
-        .collect();
-    for (program, (wall, cpu)) in programs.iter().zip(&times) {
-        println!(
-            "  {:<9} {:7.1} ms, {}/{} {:.2}; processor {:7.1} ms, {:6.1} ns a line, ratio {:.2}",
-            program.name,
-            wall * 1e3,
-            programs[0].name,
-            program.name,
-            times[0].0 / wall,
-            cpu * 1e3,
-            cpu * 1e9 / lines as f64,
-            times[0].1 / cpu,
-        );
-    }
-}
-
 /// Says whether a condition holds that this program is to check.
 fn checked(what: &str, holds: bool) -> bool {
     println!("{what}: {}", if holds { "yes" } else { "NO" });
     holds
 }
 
-fn same_outputs(programs: &[Program], files: &Files, lines: usize) -> io::Result<bool> {
-    let read = |program| fs::read(files.output_of(program));
-    let outputs = programs.iter().map(read).collect::<io::Result<Vec<_>>>()?;
-    let count = outputs[0].iter().filter(|&&byte| byte == b'\n').count();
-    Ok(count == lines && outputs.iter().all(|output| *output == outputs[0]))
-}
-
-fn print_calls(calls: &[calls::Times]) {
+fn print_calls(calls: &[calls::Times], unit: &str) {
     for times in calls {
         println!(
-            "  {:<32} library {:6.1} ns, fast {:6.1} ns, simple {:6.1} ns, \
+            "  {:<32} library {:6.1} {unit}, fast {:6.1} {unit}, simple {:6.1} {unit}, \
              library/fast {:.2}, library/simple {:.2}",
             times.name,
             times.library,
@@ -143,37 +148,36 @@ fn print_calls(calls: &[calls::Times]) {
     }
 }
 
-fn bench_programs(
-    programs: &[Program],
-    files: &Files,
-    lines: usize,
-    runs: usize,
-) -> io::Result<bool> {
-    // Peak memory first, while this process is small itself: see Program::run.
-    let schedule = &programs[0];
-    let peak = |input: &Path| {
-        schedule
-            .run(input, &files.output_of(schedule))
-            .map(|run| run.peak_kib)
-    };
-    let (few, peak_few, peak_all) = (lines / 10, peak(&files.short)?, peak(&files.long)?);
-    println!("peak memory of schedule: {peak_few} KiB on {few} lines, {peak_all} KiB on {lines}");
+/// Whether pack agrees with the plain programs where a line is too long or has no end, and unpack where blocks are
+/// damaged and the last one is cut off.
+fn agree_on_refused(pack: &Job, unpack: &Job) -> io::Result<bool> {
+    let text = fs::read(&pack.short.path)?;
+    let (first, rest) = text.split_at(text.len() / 2);
+    let too_long = [first, &b"7".repeat(2 * BLOCK), rest].concat();
+    let mut archive = fs::read(&unpack.short.path)?;
+    let cut_off = archive.len() - BLOCK / 2;
+    archive.truncate(cut_off);
+    for place in (0..cut_off).step_by(5 * BLOCK + 1) {
+        archive[place] ^= 1;
+    }
+    Ok(pack.agree_on_refused(&too_long)?
+        && pack.agree_on_refused(&text[..text.len() - 1])?
+        && unpack.agree_on_refused(&archive)?)
+}
 
-    let short = run_all(&programs[..1], files, &files.short, runs)?;
-    let long = run_all(programs, files, &files.long, runs)?;
-    print_programs(programs, &long, lines);
-    let same = checked(
-        "the outputs are equal byte for byte",
-        same_outputs(programs, files, lines)?,
-    );
-
-    let cost = |runs: &[Run], lines: usize| median(runs, |run| run.cpu) * 1e9 / lines as f64;
-    let (cost_few, cost_all) = (cost(&short[0], few), cost(&long[0], lines));
-    println!("processor time of schedule: {cost_few:.1} ns for one of {few} lines, {cost_all:.1} ns for one of {lines}");
+fn bench_programs(schedule: &Job, pack: &Job, unpack: &Job, runs: usize) -> io::Result<bool> {
+    let jobs = [schedule, pack, unpack];
+    for job in jobs {
+        job.print_peak()?;
+    }
+    let mut good = true;
+    for job in jobs {
+        good &= job.bench(runs)?;
+    }
     Ok(checked(
-        "a line costs no more in a long schedule",
-        cost_all <= GROWTH_LIMIT * cost_few,
-    ) && same)
+        "pack and unpack write the same where something is refused",
+        agree_on_refused(pack, unpack)?,
+    ) && good)
 }
 
 /// The lines of single calls.
@@ -186,34 +190,20 @@ fn call_lines(text: &[u8], lines: usize) -> Vec<&[u8]> {
 /// The program and the library of an earlier checkout beside `schedule` and the library of this folder.
 fn bench_before(
     earlier: &Path,
-    schedule: &Program,
+    schedule: &Path,
     files: &Files,
     lines: usize,
     runs: usize,
 ) -> io::Result<()> {
-    let programs = [
-        Program {
-            name: "schedule",
-            path: schedule.path.clone(),
-        },
-        Program {
-            name: "before",
-            path: earlier.join(PROGRAM),
-        },
+    let programs = vec![
+        Program::new("schedule", schedule),
+        Program::new("before", &earlier.join(PROGRAM)),
     ];
     println!(
         "before and after, {} against this folder",
         earlier.display()
     );
-    print_programs(
-        &programs,
-        &run_all(&programs, files, &files.long, runs)?,
-        lines,
-    );
-    checked(
-        "the outputs are equal byte for byte",
-        same_outputs(&programs, files, lines)?,
-    );
+    files.schedule(programs, lines).compare(runs)?;
     let text = fs::read(&files.long)?;
     before::calls(earlier, &call_lines(&text, lines), runs)
 }
@@ -225,13 +215,32 @@ fn bench_calls(files: &Files, lines: usize, passes: usize) -> io::Result<bool> {
         "single calls, {} lines, median of {passes} passes",
         lines.len()
     );
-    print_calls(&calls::measure(passes, &lines));
+    print_calls(&calls::measure(passes, &lines), "ns");
     // Of the benchmark's lines a wrong one ends in a space; the stored ones are wrong in many ways.
     let stored = fs::read(STORED)?;
     let stored = call_lines(&stored, CALL_LINES);
     Ok(checked(
         "the calls agree on every line and row, also on the stored ones",
         calls::agree(&lines) && calls::agree(&stored),
+    ))
+}
+
+fn bench_archive(files: &Files, passes: usize) -> io::Result<bool> {
+    let mut text = Vec::new();
+    for line in fs::read(&files.long)?
+        .split_inclusive(|&byte| byte == b'\n')
+        .take(ARCHIVE_LINES)
+    {
+        text.extend_from_slice(line);
+    }
+    println!(
+        "archive of a text of {:.2} megabytes, a megabyte, median of {passes} passes",
+        text.len() as f64 / 1e6
+    );
+    print_calls(&archive::measure(passes, &text), "µs");
+    Ok(checked(
+        "the functions of the archive agree, also on bad texts and damaged blocks",
+        archive::agree(&text),
     ))
 }
 
@@ -252,41 +261,55 @@ fn earlier_checkout() -> io::Result<Option<PathBuf>> {
     Ok(Some(earlier))
 }
 
-fn bench(schedule: &str, lines: usize, runs: usize) -> io::Result<bool> {
+fn bench(paths: [&str; 3], lines: usize, runs: usize) -> io::Result<bool> {
     let earlier = earlier_checkout()?;
     let here = std::env::current_exe()?;
-    let beside = |name| Program {
-        name,
-        path: here.with_file_name(name),
+    let [schedule, pack, unpack] = paths;
+    // A program of this repository and those beside this one that do its job.
+    let programs = |job, path: &str| {
+        let beside = |name| Program {
+            word: Some(job),
+            ..Program::new(name, &here.with_file_name(name))
+        };
+        vec![
+            Program::new(job, Path::new(path)),
+            beside("fast"),
+            beside("simple"),
+        ]
     };
-    let programs = [
-        Program {
-            name: "schedule",
-            path: schedule.into(),
-        },
-        beside("fast"),
-        beside("simple"),
-    ];
     let files = Files::create(lines)?;
-    let programs_good = bench_programs(&programs, &files, lines, runs)?;
+    let programs_good = bench_programs(
+        &files.schedule(programs("schedule", schedule), lines),
+        &files.pack(programs("pack", pack))?,
+        &files.unpack(programs("unpack", unpack))?,
+        runs,
+    )?;
     let calls_good = bench_calls(&files, lines, runs)?;
+    let archive_good = bench_archive(&files, runs)?;
     if let Some(earlier) = earlier {
-        bench_before(&earlier, &programs[0], &files, lines, runs)?;
+        bench_before(&earlier, Path::new(schedule), &files, lines, runs)?;
     }
-    Ok(programs_good && calls_good)
+    Ok(programs_good && calls_good && archive_good)
 }
 
 fn main() -> io::Result<()> {
     let arguments: Vec<String> = std::env::args().skip(1).collect();
     let number =
         |text: &String, least| text.parse::<usize>().ok().filter(|&number| number >= least);
-    let (schedule, lines, runs) = match &arguments[..] {
-        [schedule] => (schedule, Some(1_000_000), Some(15)),
-        [schedule, lines, runs] => (schedule, number(lines, 10), number(runs, 1)),
-        _ => return Err(io::Error::other("usage: bench SCHEDULE [LINES RUNS]")),
+    let (paths, lines, runs) = match &arguments[..] {
+        [schedule, pack, unpack] => ([schedule, pack, unpack], Some(1_000_000), Some(15)),
+        [schedule, pack, unpack, lines, runs] => {
+            ([schedule, pack, unpack], number(lines, 10), number(runs, 1))
+        }
+        _ => {
+            return Err(io::Error::other(
+                "usage: bench SCHEDULE PACK UNPACK [LINES RUNS]",
+            ))
+        }
     };
     let (Some(lines), Some(runs)) = (lines, runs) else {
         return Err(io::Error::other("LINES is at least 10 and RUNS at least 1"));
     };
-    exit(if bench(schedule, lines, runs)? { 0 } else { 1 })
+    let good = bench(paths.map(String::as_str), lines, runs)?;
+    exit(if good { 0 } else { 1 })
 }

@@ -3,12 +3,14 @@
 use std::fs::File;
 use std::io;
 use std::path::{Path, PathBuf};
-use std::process::Command;
+use std::process::{Command, Output};
 use std::time::{Duration, Instant};
 
 pub struct Program {
     pub name: &'static str,
     pub path: PathBuf,
+    /// The job, for a plain program, which has several.
+    pub word: Option<&'static str>,
 }
 
 #[derive(Clone, Copy)]
@@ -47,14 +49,31 @@ extern "C" {
 }
 
 impl Program {
+    pub fn new(name: &'static str, path: &Path) -> Program {
+        Program {
+            name,
+            path: path.into(),
+            word: None,
+        }
+    }
+
+    fn command(&self, input: &Path) -> io::Result<Command> {
+        let mut command = Command::new(&self.path);
+        command.args(self.word).stdin(File::open(input)?);
+        Ok(command)
+    }
+
+    /// What the program writes and tells, whatever its status.
+    pub fn told(&self, input: &Path) -> io::Result<Output> {
+        self.command(input)?.output()
+    }
+
     /// Runs the program once. Its peak memory is not below this process's own at the start, which Linux counts in.
     pub fn run(&self, input: &Path, output: &Path) -> io::Result<Run> {
-        let (input, output) = (File::open(input)?, File::create(output)?);
+        let mut command = self.command(input)?;
+        command.stdout(File::create(output)?);
         let start = Instant::now();
-        let child = Command::new(&self.path)
-            .stdin(input)
-            .stdout(output)
-            .spawn()?;
+        let child = command.spawn()?;
         let (mut status, mut usage) = (0, Usage::default());
         // Sound: both pointers are to live values of the types that wait4 fills.
         let ended = unsafe { wait4(child.id() as i32, &mut status, 0, &mut usage) };
