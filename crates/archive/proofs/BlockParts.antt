@@ -3,7 +3,7 @@ use Prim.Native.Nat.{ℕ, suc, ◌+◌, ◌-◌, ◌*◌, ◌%◌, ◌≤◌, �
 use native.Mathlib.Omega.{arith}
 use native.Mathlib.Decide.{ℕ_discrete}
 use native.Mathlib.Nat.{zero-add}
-use mathlib.Core.Bool.{Bool, true, false, ◌&&◌, and-false, and_assoc}
+use mathlib.Core.Bool.{Bool, true, false, cond, ◌&&◌, and-false, and_assoc}
 use mathlib.Core.List.{List, [], ◌∷◌, ◌++◌, append-nil}
 use mathlib.Core.Path.{◌≡◌, refl, sym, ap, ◌∙◌}
 use lib.Dec.{eqb, leb}
@@ -19,7 +19,7 @@ use Rattle.std.specs.List.{slice_get, list_all}
 use Rattle.std.proofs.lemmas.Option.{slice_get_within, get_or_from_slice_get}
 use Rattle.std.proofs.lemmas.List.Sums.{sum_by-cons, sum_by-append, sum_by-take-drop}
 use Rattle.std.proofs.lemmas.List.Folds.{sum_by-replicate}
-use Rattle.basis.proofs.Choice.{and_left, and_right}
+use Rattle.basis.proofs.Choice.{and_left, and_right, cond_cases}
 use Rattle.archive.specs.Block.{two_bytes, block_of, number_at, used, sum_of_others, used_part, remainder, whole_lines, sound, read_block}
 
 -- ── whole lines ──
@@ -174,3 +174,21 @@ read_sound block s is r l = rw (← s, ← is, ← r, ← l) refl
 
 pub sound_fits : (block : List ℕ) → true ≡ sound block → Sound block
 sound_fits block s = sound_parts block (sym s)
+
+pub read_yields : (block : List ℕ) → Sound block → Ok (used_part block) ≡ read_block block
+unfolding read_block
+read_yields block s = rw (← sound_from block s) refl
+
+-- Only a sound block yields, and it yields its used part.
+pub read_only_sound : (block : List ℕ) {lines : List ℕ} → read_block block ≡ Ok lines → Sound block × (lines ≡ used_part block)
+unfolding read_block
+read_only_sound block {lines} is = step (sound block) refl is
+  where
+    step : (b : Bool) → sound block ≡ b → cond {A = Result (List ℕ) ℕ} b (Ok (used_part block)) (Err 23) ≡ Ok lines → Sound block × (lines ≡ used_part block)
+    step true e is = (sound_parts block e, cc)
+    step false e is = absurd cc
+
+pub unsound_refused : (block : List ℕ) → (Sound block → ⊥) → read_block block ≡ Err 23
+unfolding read_block
+unsound_refused block unsound =
+    cond_cases (λ r. r ≡ Err 23) (sound block) (λ all. absurd (unsound (sound_parts block all))) (λ _. refl)

@@ -2,7 +2,9 @@
 use Prim.Native.Nat.{ℕ, zero, suc, ◌+◌, ◌-◌, ◌*◌, ◌/◌, ◌%◌, ◌≤◌, ◌<◌}
 use native.Mathlib.Decide.{ℕ_discrete, dec_le}
 use native.Mathlib.Omega.{arith}
-use mathlib.Core.Bool.{Bool, true, false, false≢true}
+use mathlib.Core.Bool.{Bool, true, false, false≢true, cond, ◌||◌}
+use lib.Dec.{eqb}
+use Rattle.std.proofs.lemmas.List.Sums.{sum_by-cons, sum_by-append}
 use mathlib.Core.List.{List, [], ◌∷◌, ◌++◌}
 use mathlib.Core.Path.{◌≡◌, refl, sym, ap, ◌∙◌}
 use lib.ListN.{length, take, drop, get_or, length-append, length-drop, length-take, take-append-drop}
@@ -14,9 +16,9 @@ use Rattle.text.specs.LineEnd.{ended, line_length, lines_of}
 use Rattle.text.proofs.LineEnd.{ended_cases, line_cases, ended_line, line_length_line, lines_of_line, Whole, whole_none as Whole-none, whole_line as Whole-line}
 use Rattle.archive.specs.Block.{whole_lines}
 use Rattle.archive.specs.Packing.{storable, contents}
-use Rattle.archive.specs.Stream.{last_end, first_length}
-use Rattle.archive.specs.Claims.{HoldsLines, NoLineSplit, SameBytes, SameLines, OpensWhereFull}
-use Rattle.archive.proofs.Lines.{by_lines, within_line, beyond_line, last_end_append, last_end_unended, last_end_line}
+use Rattle.archive.specs.Stream.{last_end, first_length, line_ends}
+use Rattle.archive.specs.Claims.{HoldsLines, NoLineSplit, SameBytes, SameLines, OpensWhereFull, LinesCounted}
+use Rattle.archive.proofs.Lines.{by_lines, or_none_left, or_none_right, within_line, beyond_line, last_end_append, last_end_unended, last_end_line}
 use Rattle.archive.proofs.Counting.{first_most}
 use Rattle.archive.proofs.Packing.{whole_line, whole_unended, storable_none, storable_unended, first_leaves, first_none, first_contents, contents_none}
 use Rattle.archive.proofs.Settled.{first_capacity}
@@ -30,7 +32,7 @@ first_some t more s =
     ]
 
 -- What holds of no text and no blocks, and of a text and its blocks where it holds of what the first block leaves, holds of each text that can be stored.
-by_blocks :
+pub by_blocks :
     (P : List ℕ → List (List ℕ) → Type 0) → P [] []
     → ((t : List ℕ) → storable t ≡ true → 0 < first_length t → P (drop (first_length t) t) (contents (drop (first_length t) t))
     → P t (take (first_length t) t ∷ contents (drop (first_length t) t)))
@@ -182,3 +184,29 @@ full_first t s known (suc k) more = known k (omega arith)
 
 pub opens_where_full : OpensWhereFull
 opens_where_full = by_blocks (λ t blocks. Full blocks) (λ k more. absurd (let no· : ⊥ = omega (arith, more) in no·)) (λ t s some known. full_first t s known)
+
+-- ── the lines counted ──
+abbrev one_end : ℕ → ℕ
+one_end byte = cond (eqb byte 10) 1 0
+
+no_ends : (l : List ℕ) → ended l ≡ false → line_ends l ≡ 0
+unfolding ended
+no_ends [] e = refl
+no_ends (byte ∷ l) e =
+    let first : one_end byte ≡ 0 = rw (or_none_left (eqb byte 10) (ended l) e) refl in
+    omega (arith, sum_by-cons one_end byte l, first, no_ends l (or_none_right (eqb byte 10) (ended l) e))
+
+lines_counted_line :
+    (line rest : List ℕ) → ended line ≡ false → (whole_lines rest ≡ true → line_ends rest ≡ length (lines_of rest))
+    → whole_lines (line ++ 10 ∷ rest) ≡ true → line_ends (line ++ 10 ∷ rest) ≡ length (lines_of (line ++ 10 ∷ rest))
+lines_counted_line line rest e known whole =
+    let parts = sum_by-append one_end line (10 ∷ rest) in
+    let behind = sum_by-cons one_end 10 rest in
+    let others = known (rw (whole_line line rest) at whole) in
+    omega (arith, parts, behind, no_ends line e, others, ap length (lines_of_line line rest e))
+
+pub lines_counted : LinesCounted
+unfolding lines_of
+lines_counted =
+    by_lines (λ l. whole_lines l ≡ true → line_ends l ≡ length (lines_of l)) (λ whole. refl)
+    (λ l some e whole. absurd (false≢true (sym (whole_unended l some e) ∙ whole))) lines_counted_line

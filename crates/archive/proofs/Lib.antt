@@ -7,4 +7,5 @@ pub mod Placed
 pub mod Storing
 pub mod Claims
 pub mod BlockClaims
+pub mod WrittenClaims
 pub mod BlockParts
