@@ -1,14 +1,14 @@
 -- The claims about one block.
 use Prim.Native.Nat.{ℕ, zero, suc, ◌+◌, ◌-◌, ◌*◌, ◌/◌, ◌%◌, ◌≤◌, ◌<◌}
 use native.Mathlib.Omega.{arith}
-use mathlib.Core.Bool.{Bool, true, false}
+use mathlib.Core.Bool.{true}
 use mathlib.Core.List.{List, [], ◌∷◌, ◌++◌}
 use mathlib.Core.Path.{◌≡◌, refl, sym, ap, ◌∙◌}
 use lib.ListN.{length, take, drop, get_or, set, length-append, length-drop, length-replicate, take-append-drop}
 use lib.Seq.{length-take-le, take-append_seam, drop-append_seam, drop-drop}
-use Rattle.std.specs.Prelude.{All, replicate, sum, Result, Ok, Err}
-use Rattle.std.proofs.lemmas.List.Sums.{sum_by-append, sum_by-cons, sum_by-set}
-use Rattle.archive.specs.Block.{two_bytes, number_at, block_of, used, sum_of_others, used_part, remainder, whole_lines, sound, read_block}
+use Rattle.std.specs.Prelude.{replicate, sum, Ok}
+use Rattle.std.proofs.lemmas.List.Sums.{sum_by-cons, sum_by-set}
+use Rattle.archive.specs.Block.{two_bytes, number_at, block_of, used, sum_of_others, used_part, remainder, whole_lines, read_block}
 use Rattle.archive.specs.Claims.{Bytes, LessTightlyRead, ReadExactly, ChangedByteRefused}
 use Rattle.archive.proofs.BlockParts.{Sound, sum_zeros, read_yields, read_only_sound, unsound_refused}
 

@@ -1,14 +1,14 @@
 -- The claims about archives.
-use Prim.Native.Nat.{ℕ, zero, suc, ◌+◌, ◌-◌, ◌*◌, ◌/◌, ◌%◌, ◌≤◌, ◌<◌}
+use Prim.Native.Nat.{ℕ, zero, suc, ◌+◌, ◌-◌, ◌≤◌, ◌<◌}
 use native.Mathlib.Decide.{ℕ_discrete, dec_le}
 use native.Mathlib.Omega.{arith}
-use mathlib.Core.Bool.{Bool, true, false, false≢true, cond, ◌||◌}
+use mathlib.Core.Bool.{true, false, false≢true, cond}
 use lib.Dec.{eqb}
 use Rattle.std.proofs.lemmas.List.Sums.{sum_by-cons, sum_by-append}
 use mathlib.Core.List.{List, [], ◌∷◌, ◌++◌}
 use mathlib.Core.Path.{◌≡◌, refl, sym, ap, ◌∙◌}
-use lib.ListN.{length, take, drop, get_or, length-append, length-drop, length-take, take-append-drop}
-use lib.Seq.{take-append-add, take-add, take-take, take-nil, drop-append-add, length-take-le}
+use lib.ListN.{length, take, drop, get_or, length-drop, take-append-drop}
+use lib.Seq.{take-append-add, take-add, take-take, take-nil, length-take-le}
 use Rattle.std.proofs.lemmas.List.Elements.{All-nil, All-cons}
 use Rattle.std.specs.Prelude.{All, flat_map}
 use Rattle.std.specs.List.{concat}
@@ -20,7 +20,7 @@ use Rattle.archive.specs.Stream.{last_end, first_length, line_ends}
 use Rattle.archive.specs.Claims.{HoldsLines, NoLineSplit, SameBytes, SameLines, OpensWhereFull, LinesCounted}
 use Rattle.archive.proofs.Lines.{by_lines, or_none_left, or_none_right, within_line, beyond_line, last_end_append, last_end_unended, last_end_line}
 use Rattle.archive.proofs.Counting.{first_most}
-use Rattle.archive.proofs.Packing.{whole_line, whole_unended, storable_none, storable_unended, first_leaves, first_none, first_contents, contents_none}
+use Rattle.archive.proofs.Packing.{whole_line, whole_unended, storable_unended, first_leaves, first_none, first_contents, contents_none}
 use Rattle.archive.proofs.Settled.{first_capacity}
 
 -- ── along the blocks ──
@@ -102,8 +102,15 @@ same_lines =
     let first = take (first_length t) t in
     let behind = drop (first_length t) t in
     ap (λ l. lines_of first ++ l) known ∙ sym (whole_lines_lem first (whole_first t) behind) ∙ ap lines_of (take-append-drop (first_length t) t))
+
+-- Each block takes a byte or more.
+pub blocks_few : (text : List ℕ) → storable text ≡ true → length (contents text) ≤ length text
+blocks_few =
+    by_blocks (λ t blocks. length blocks ≤ length t) (omega arith)
+    (λ t s some known. omega (arith, known, length-drop (first_length t) t, first_most t, some))
+
 -- ── a block is opened where the line does not fit ──
-ended_some : (l : List ℕ) → ended l ≡ true → 0 < last_end l
+pub ended_some : (l : List ℕ) → ended l ≡ true → 0 < last_end l
 unfolding ended last_end
 ended_some [] e = absurd (false≢true e)
 ended_some (byte ∷ l) e = rw e (omega arith)

@@ -8,4 +8,6 @@ pub mod Storing
 pub mod Claims
 pub mod BlockClaims
 pub mod WrittenClaims
+pub mod Stream
+pub mod Figures
 pub mod BlockParts

@@ -92,14 +92,15 @@ part_contents l m some s =
     rw (part_first l m, part_front l m, part_behind l m) at blocks
 
 -- Nothing is packed; or the first block, and what is packed behind it.
-packed_cases :
+pub packed_cases :
     (most : ℕ) (ended· : Bool) (bytes : List ℕ) (P : ℕ → Type 0) → P 0
-    → ((first_length bytes ≡ 0 → ⊥) → P (first_length bytes + packed_length most ended· (drop (first_length bytes) bytes))) → P (packed_length (suc most) ended· bytes)
+    → (settled ended· bytes ≡ true → (first_length bytes ≡ 0 → ⊥) → P (first_length bytes + packed_length most ended· (drop (first_length bytes) bytes)))
+    → P (packed_length (suc most) ended· bytes)
 unfolding packed_length
 packed_cases most ended· bytes P none more =
     elim (ℕ_discrete (first_length bytes) 0) [
       | yes is ↦ rw (packed_none (suc most) ended· bytes is) none
-      | no some ↦ cond_cases P (settled ended· bytes) (λ _. more some) (λ _. none)
+      | no some ↦ cond_cases P (settled ended· bytes) (λ known. more known some) (λ _. none)
     ]
 
 -- What is packed can be stored, whatever comes behind it.
@@ -109,7 +110,7 @@ packed_storable zero ended· bytes = storable_none
 packed_storable (suc most) ended· bytes =
     let behind = packed_storable most ended· (drop (first_length bytes) bytes) in
     packed_cases most ended· bytes (λ n. storable (take n bytes) ≡ true) storable_none
-    (λ some. part_storable bytes (packed_length most ended· (drop (first_length bytes) bytes)) behind)
+    (λ known some. part_storable bytes (packed_length most ended· (drop (first_length bytes) bytes)) behind)
 
 -- The blocks of what is packed: none; or the first block, and those behind it.
 pub packed_blocks :
@@ -118,7 +119,7 @@ pub packed_blocks :
     → P (contents (packed_of (suc most) ended· bytes))
 packed_blocks most ended· bytes P none more =
     packed_cases most ended· bytes (λ n. P (contents (take n bytes))) (rw contents_none none)
-    (λ some.
+    (λ known some.
     let behind = drop (first_length bytes) bytes in
     rw (part_contents bytes (packed_length most ended· behind) some (packed_storable most ended· behind)) (more some))
 

@@ -2,14 +2,14 @@
 use Prim.Native.Nat.{ℕ, zero, suc, ◌+◌, ◌-◌, ◌*◌, ◌/◌, ◌%◌, ◌≤◌, ◌<◌}
 use native.Mathlib.Decide.{dec_lt}
 use native.Mathlib.Omega.{arith}
-use mathlib.Core.Bool.{Bool, true, false, cond, ◌&&◌}
+use mathlib.Core.Bool.{true, ◌&&◌}
 use mathlib.Core.List.{List, [], ◌∷◌, ◌++◌, append_assoc}
-use mathlib.Core.Path.{◌≡◌, refl, sym, ap, ◌∙◌}
+use mathlib.Core.Path.{◌≡◌, refl, ap, ◌∙◌}
 use lib.Dec.{leb}
-use lib.ListN.{length, take, drop, get_or, set, length-append, length-drop, length-replicate}
-use lib.Seq.{take-set-lt, take-append-add, drop-append-add, take_at, drop_at, drop-drop}
+use lib.ListN.{length, take, drop, get_or, set, length-append}
+use lib.Seq.{take-set-lt, drop-append-add, take_at}
 use borrow.Author.Tests.{le-leb, leb-true}
-use Rattle.std.specs.Prelude.{All, flat_map, replicate, sum, Result, Ok, Err}
+use Rattle.std.specs.Prelude.{All, flat_map, replicate, sum, Ok, Err}
 use Rattle.std.proofs.lemmas.List.Elements.{All-head, All-tail, All-nil, All-cons, All-append, All-replicate, All-take, All-drop}
 use Rattle.std.proofs.lemmas.List.{drop-set-lt, drop-set-add, take-set-le, get_or-take, get_or-drop}
 use Rattle.basis.proofs.Choice.{and_left, and_right, cond_cases}
@@ -156,9 +156,10 @@ one_block_lost text buffer s bytes place byte within below other k few =
     let archive = (stored text buffer).buffer in
     let holds = no_line_split text s.good k [] few in
     let good = bytes_of_block (get_or (contents text) k []) holds.fits (bytes_of_contents text s.good bytes k [] few) in
-    let back = block_reads_back text buffer s k few in
-    ((λ here.
-    ap read_block (changed_here archive place byte k here)
-    ∙ changed_byte_refused (block_at k archive) (get_or (contents text) k []) (rw (← block_written text buffer s k few) at good) back (place % 512) byte
-    (omega arith) below (λ is. other (is ∙ here_before archive place byte k here))),
-    (λ elsewhere. ap read_block (changed_elsewhere archive place byte k elsewhere) ∙ back))
+    let back = block_reads_back text buffer s k few in (
+      (λ here.
+          ap read_block (changed_here archive place byte k here)
+          ∙ changed_byte_refused (block_at k archive) (get_or (contents text) k []) (rw (← block_written text buffer s k few) at good) back (place % 512) byte
+          (omega arith) below (λ is. other (is ∙ here_before archive place byte k here))),
+      (λ elsewhere. ap read_block (changed_elsewhere archive place byte k elsewhere) ∙ back),
+    )

@@ -1,5 +1,5 @@
 -- What is claimed of archives. A text is any bytes.
-use Rattle.std.specs.Prelude.{ℕ, suc, ◌+◌, ◌*◌, ◌/◌, ◌≤◌, ◌<◌, true, List, [], ◌≡◌, length, get_or, set, take, drop, All, flat_map, Result, Ok, Err}
+use Rattle.std.specs.Prelude.{ℕ, suc, ◌+◌, ◌*◌, ◌/◌, ◌≤◌, ◌<◌, true, List, [], ◌≡◌, length, get_or, set, take, drop, All, flat_map, Ok, Err}
 use Rattle.std.specs.List.{concat}
 use Rattle.text.specs.LineEnd.{line_length, lines_of}
 use Rattle.archive.specs.Block.{block_of, read_block, whole_lines}

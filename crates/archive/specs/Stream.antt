@@ -1,10 +1,10 @@
 -- What is packed of the bytes at hand, wherever an input is cut into pieces, and that the pieces make up its archive.
-use Rattle.std.specs.Prelude.{ℕ, zero, suc, ◌+◌, ◌/◌, Bool, ◌||◌, cond, List, [], ◌∷◌, eqb, leb, length, take, drop}
+use Rattle.std.specs.Prelude.{ℕ, zero, suc, ◌+◌, ◌/◌, ◌≤◌, Bool, true, false, ◌||◌, cond, List, [], ◌∷◌, ◌++◌, ◌≡◌, eqb, leb, length, take, drop}
 use Rattle.std.specs.List.{count_by}
 use Rattle.text.specs.LineEnd.{ended}
 use Rattle.buffer.specs.Overwrite.{overwrite}
 use Rattle.archive.specs.declared.Packed.{Packed}
-use Rattle.archive.specs.Packing.{contents, archive_of}
+use Rattle.archive.specs.Packing.{storable, contents, archive_of}
 
 -- How many bytes stand up to and including the last byte 10; 0 where there is none.
 unfoldable pub last_end : List ℕ → ℕ
@@ -47,3 +47,31 @@ packed_into ended· bytes buffer =
       packed = record { taken = packed_length most ended· bytes; blocks = length (contents (packed_of most ended· bytes)) };
       buffer = overwrite buffer 0 (archive_of (packed_of most ended· bytes));
     }
+
+-- A run of `pack`: `Run held input written rest` says that with the bytes `held` at hand it reads `input`, writes `written` and has `rest` at hand then. It
+-- reads pieces of any length and packs any number of blocks, in any order.
+pub data Run : List ℕ → List ℕ → List ℕ → List ℕ → Type 0 where
+  stops : {held : List ℕ} → Run held [] [] held
+  reads : {held input written rest : List ℕ} (piece : List ℕ) → Run (held ++ piece) input written rest → Run held (piece ++ input) written rest
+  packs : {held input written rest : List ℕ} (most : ℕ) → Run (unpacked_of most false held) input written rest →
+      Run held input (archive_of (packed_of most false held) ++ written) rest
+
+-- A run that has read the whole input, with what is packed of the rest at its end, has written the archive of what can be packed of that input.
+abbrev pub RunWritesArchive : Type 0
+RunWritesArchive =
+    (input written rest : List ℕ) → Run [] input written rest → (most : ℕ) → length rest ≤ most
+    → written ++ archive_of (packed_of most true rest) ≡ archive_of (packed_of (length input) true input)
+
+-- That is the whole input, where it can be stored; else what stands before the first line that no block can hold or that has no end: whole lines, and behind
+-- them 508 bytes, or fewer at the end, without byte 10.
+abbrev pub WholePacked : Type 0
+WholePacked = (input : List ℕ) → storable input ≡ true → packed_of (length input) true input ≡ input
+
+abbrev pub PackedUpToBadLine : Type 0
+PackedUpToBadLine =
+    (input : List ℕ)
+    → (storable (packed_of (length input) true input) ≡ true) × (ended (take 508 (unpacked_of (length input) true input)) ≡ false)
+
+-- What is packed of the bytes at hand can be stored, whatever comes behind them.
+abbrev pub PackedIsStorable : Type 0
+PackedIsStorable = (most : ℕ) (ended· : Bool) (bytes : List ℕ) → storable (packed_of most ended· bytes) ≡ true
