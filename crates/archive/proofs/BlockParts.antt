@@ -1,5 +1,5 @@
 -- Laws of a block: of its parts, of the block that holds some lines, and of what a block yields.
-use Prim.Native.Nat.{ℕ, suc, ◌+◌, ◌-◌, ◌*◌, ◌%◌, ◌≤◌, ◌<◌}
+use Prim.Native.Nat.{ℕ, ◌+◌, ◌-◌, ◌%◌, ◌≤◌, ◌<◌}
 use native.Mathlib.Omega.{arith}
 use native.Mathlib.Decide.{ℕ_discrete}
 use native.Mathlib.Nat.{zero-add}
@@ -10,14 +10,14 @@ use lib.Dec.{eqb, leb}
 use lib.ListN.{length, take, drop, get_or, length-append, length-replicate}
 use lib.Seq.{drop-drop, drop-length}
 use borrow.Author.Tests.{eq-eqb, ne_eqb, le-leb, lt-leb, eqb-true, leb-true}
-use Rattle.std.proofs.Common.{Fits, w8, w16, sum, replicate, Some}
+use Rattle.std.proofs.Common.{w16, sum, replicate, Some}
 use Rattle.std.specs.Int.{to_le_bytes}
 use Rattle.buffer.specs.Overwrite.{overwrite}
 use Rattle.buffer.proofs.Overwrite.{overwrite_joins, overwrite_start}
 use Rattle.std.specs.Prelude.{Result, Ok, Err}
 use Rattle.std.specs.List.{slice_get, list_all}
 use Rattle.std.proofs.lemmas.Option.{slice_get_within, get_or_from_slice_get}
-use Rattle.std.proofs.lemmas.List.Sums.{sum_by-cons, sum_by-append, sum_by-take-drop}
+use Rattle.std.proofs.lemmas.List.Sums.{sum_by-cons}
 use Rattle.std.proofs.lemmas.List.Folds.{sum_by-replicate}
 use Rattle.basis.proofs.Choice.{and_left, and_right, cond_cases}
 use Rattle.archive.specs.Block.{two_bytes, block_of, number_at, used, sum_of_others, used_part, remainder, whole_lines, sound, read_block}
@@ -34,10 +34,6 @@ whole_last bytes last is =
     rw (← get_or_from_slice_get bytes (length bytes - 1) last 0 (sym is), ne_eqb (length bytes) 0 (omega (arith, some))) refl
 
 -- ── sums of bytes ──
-pub sum_most : (l : List ℕ) → ((i : ℕ) → Fits w8 (get_or l i 0)) → sum l ≤ 255 * length l
-sum_most [] bytes = omega arith
-sum_most (byte ∷ l) bytes = omega (arith, sum_by-cons (λ n. n) byte l, sum_most l (λ i. bytes (suc i)), bytes 0)
-
 sum_first : (byte : ℕ) (l : List ℕ) → sum (byte ∷ l) ≡ byte + sum l
 sum_first = sum_by-cons (λ n. n)
 
@@ -71,18 +67,20 @@ filled_up rest lines count whole =
 
 -- Head and rest as the writer makes them.
 pub block_written :
-    (lines rest : List ℕ) {front inner : ℕ} {count total head copied cleared : List ℕ} → length lines ≤ 508 → length rest ≡ 508
-    → count ≡ to_le_bytes w16 (length lines) → front ≡ sum count → inner ≡ sum lines → total ≡ to_le_bytes w16 ((front + inner) % 65536)
-    → head ≡ get_or count 0 0 ∷ get_or count 1 0 ∷ get_or total 0 0 ∷ get_or total 1 0 ∷ [] → copied ≡ overwrite rest 0 lines
-    → cleared ≡ overwrite copied (length lines) (replicate (508 - length lines) 0) → head ++ cleared ≡ block_of lines
+    (lines rest : List ℕ) {front inner whole : ℕ} {count total head copied cleared : List ℕ} → length lines ≤ 508 → length rest ≡ 508
+    → copied ≡ overwrite rest 0 lines → cleared ≡ overwrite copied (length lines) (replicate (508 - length lines) 0)
+    → count ≡ to_le_bytes w16 (length lines) → front ≡ sum count % 65536 → inner ≡ sum cleared % 65536 → whole ≡ (front + inner) % 65536
+    → total ≡ to_le_bytes w16 whole → head ≡ get_or count 0 0 ∷ get_or count 1 0 ∷ get_or total 0 0 ∷ get_or total 1 0 ∷ []
+    → head ++ cleared ≡ block_of lines
 unfolding block_of two_bytes
-block_written lines rest {front} {inner} {count} {total} fits size c f i t h copy clear =
+block_written lines rest {front} {inner} {whole} {count} {total} {head} {copied} {cleared} fits size copy clear c f i w t h =
     let zeros : List ℕ = replicate (508 - length lines) 0 in
     let rest_is = clear ∙ ap (λ b. overwrite b (length lines) zeros) copy ∙ filled_up rest lines (508 - length lines) (omega arith) in
     let count_is : count ≡ two_bytes (length lines) = c ∙ two_bytes_low (length lines) (omega arith) in
-    let lines_sum : sum (lines ++ zeros) ≡ inner = sum_by-append (λ n. n) lines zeros ∙ omega (arith, sum_zeros (508 - length lines), i) in
-    let total_is : total ≡ two_bytes ((front + inner) % 65536) = t ∙ two_bytes_low ((front + inner) % 65536) (omega arith) in
-    rw (h, rest_is, total_is, lines_sum, f, count_is) refl
+    let whole_is : whole ≡ (sum count + sum cleared) % 65536 = omega (arith, w, f, i) in
+    let total_is : total ≡ two_bytes ((sum count + sum cleared) % 65536) =
+    t ∙ ap (λ n. to_le_bytes w16 n) whole_is ∙ two_bytes_low ((sum count + sum cleared) % 65536) (omega arith) in
+    rw (h, total_is, rest_is, count_is) refl
 
 -- ── what a block yields ──
 -- That a block is sound, in five facts.
@@ -121,30 +119,21 @@ module _ (block : List ℕ) where
   unfolding sound
   sound_count above = rw (lt-leb (used block) 508 above) (sym (and-false (eqb (length block) 512)))
 
-  -- The sum of the others is that of three parts.
-  others_parts : sum_of_others block ≡ (sum (take 2 block) + sum (used_part block) + sum (remainder block)) % 65536
-  unfolding sum_of_others used_part remainder
-  others_parts =
-      let parts : sum (take (used block) (drop 4 block)) + sum (drop (used block) (drop 4 block)) ≡ sum (drop 4 block) =
-      sum_by-take-drop (λ n. n) (drop 4 block) (used block) in
-      ap (λ n. n % 65536) (omega (arith, rw (drop-drop (used block) 4 block) at parts))
-
   -- Of a block of the right length and count, the tests of sum, remainder and lines, however its parts and their sums were found.
   pub sound_tests :
-      {count total front inner zeros : ℕ} {rest lines behind : List ℕ} {whole : Bool} → length block ≡ 512 → count ≤ 508 → count ≡ used block
-      → rest ≡ drop 4 block → lines ≡ take count rest → behind ≡ drop count rest → total ≡ number_at 2 block → front ≡ sum (take 2 block)
-      → inner ≡ sum lines → zeros ≡ sum behind → whole ≡ whole_lines lines
-      → (eqb total ((front + inner + zeros) % 65536) && eqb zeros 0 && whole) ≡ sound block
-  unfolding sound used_part remainder
-  sound_tests {count} {total} {front} {inner} {zeros} {rest} {lines} {behind} {whole} size few is r l b t f i z w =
+      {count total front inner others : ℕ} {rest lines behind : List ℕ} {zeros whole : Bool} → length block ≡ 512 → count ≤ 508 → count ≡ used block
+      → rest ≡ drop 4 block → lines ≡ take count rest → behind ≡ drop count rest → total ≡ number_at 2 block → front ≡ sum (take 2 block) % 65536
+      → inner ≡ sum rest % 65536 → others ≡ (front + inner) % 65536 → zeros ≡ list_all (λ byte. eqb byte 0) behind → whole ≡ whole_lines lines
+      → (eqb total others && zeros && whole) ≡ sound block
+  unfolding sound used_part remainder sum_of_others
+  sound_tests {count} {total} {front} {inner} {others} {rest} {lines} {behind} {zeros} {whole} size few is r l b t f i o z w =
       let in_range = le-leb (used block) 508 (rw is at few) in
       let lines_is : lines ≡ used_part block = rw (r, is) at l in
       let behind_is : behind ≡ remainder block = b ∙ rw (r, is) (drop-drop (used block) 4 block) in
-      let inner_is : inner ≡ sum (used_part block) = i ∙ ap sum lines_is in
-      let zeros_is : zeros ≡ sum (remainder block) = z ∙ ap sum behind_is in
+      let others_are : others ≡ (sum (take 2 block) + sum (drop 4 block)) % 65536 = omega (arith, o, f, i, ap sum r) in
+      let zeros_are : zeros ≡ list_all (λ byte. eqb byte 0) (remainder block) = z ∙ ap (list_all (λ byte. eqb byte 0)) behind_is in
       let whole_is : whole ≡ whole_lines (used_part block) = w ∙ ap whole_lines lines_is in
-      rw (eq-eqb (length block) 512 size, in_range, others_parts, zeros_test (remainder block), ← t, ← f, ← inner_is, ← zeros_is, ← whole_is)
-      (and_assoc (eqb total ((front + inner + zeros) % 65536)) (eqb zeros 0) whole)
+      rw (eq-eqb (length block) 512 size, in_range, ← t, ← others_are, ← zeros_are, ← whole_is) (and_assoc (eqb total others) zeros whole)
 
 pub sound_from : (block : List ℕ) → Sound block → true ≡ sound block
 unfolding sound

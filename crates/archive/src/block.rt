@@ -1,5 +1,6 @@
 // One block: how many bytes are used, the sum of the others, whole lines, zeros.
-ghost use Rattle.std.specs.Prelude.{ℕ, ◌≡◌, ◌≤◌, ◌+◌, ◌<◌, ◌*◌, length, sum};
+ghost use Rattle.std.specs.Prelude.{ℕ, ◌≡◌, ◌≤◌, ◌+◌, ◌%◌, ◌<◌, eqb, length, sum};
+ghost use Rattle.std.specs.List.{list_all};
 ghost use Rattle.std.specs.Result.{result_map_both};
 ghost use Rattle.basis.specs.Refusal.{number_of};
 ghost use Rattle.archive.specs.Block.{number_at, block_of, whole_lines, sound, read_block};
@@ -19,8 +20,6 @@ const LINES: usize = 4;
 // How many bytes of lines a block holds at most.
 pub(crate) const CAPACITY: usize = BLOCK - LINES;
 
-const SUM_MODULUS: u32 = 65536;
-
 // Writes the block that holds `lines`.
 pub(crate) fn write_block(lines: &[u8], block: &mut [u8])
     requires capacity { length lines.now ≤ 508 }
@@ -28,12 +27,11 @@ pub(crate) fn write_block(lines: &[u8], block: &mut [u8])
     ensures { block.new ≡ block_of lines.now }
 {
     let (head, rest) = block.split_at_mut(LINES);
-    let count = (lines.len() as u16).to_le_bytes();
-    let sum = (sum_of(&count) + sum_of(lines)) % SUM_MODULUS;
-    let sum = (sum as u16).to_le_bytes();
-    head.copy_from_slice(&[count[0], count[1], sum[0], sum[1]]);
     buffer::copy(rest, 0, lines);
     buffer::clear(rest, lines.len(), CAPACITY - lines.len());
+    let count = (lines.len() as u16).to_le_bytes();
+    let sum = sum_of(&count).wrapping_add(sum_of(rest)).to_le_bytes();
+    head.copy_from_slice(&[count[0], count[1], sum[0], sum[1]]);
 }
 
 // The lines of a block: its used part.
@@ -62,10 +60,8 @@ fn is_sound(block: &[u8]) -> bool
     }
     let (_, rest) = block.split_at(LINES);
     let (lines, remainder) = rest.split_at(count);
-    let remainder = sum_of(remainder);
-    let others = sum_of(&block[..SUM]) + sum_of(lines) + remainder;
-    let sum = u32::from(number_at(block, SUM));
-    (sum == others % SUM_MODULUS) & (remainder == 0) & whole_lines(lines)
+    let others = sum_of(&block[..SUM]).wrapping_add(sum_of(rest));
+    (number_at(block, SUM) == others) & are_zero(remainder) & whole_lines(lines)
 }
 
 // The number of the two bytes at a place, low byte first.
@@ -85,14 +81,19 @@ fn whole_lines(bytes: &[u8]) -> bool
     }
 }
 
-fn sum_of(bytes: &[u8]) -> u32
-    requires { length bytes.now ≤ 508 }
-    ensures sum { result ≡ sum bytes.now }
-    ensures most { result ≤ 255 * length bytes.now }
+fn are_zero(bytes: &[u8]) -> bool
+    ensures { result ≡ list_all (λ byte. eqb byte 0) bytes.now }
 {
-    let mut sum = 0;
+    bytes.iter().all(|&byte| byte == 0)
+}
+
+// The sum modulo 65536.
+fn sum_of(bytes: &[u8]) -> u16
+    ensures { result ≡ sum bytes.now % 65536 }
+{
+    let mut sum: u16 = 0;
     for &byte in bytes {
-        sum += u32::from(byte);
+        sum = sum.wrapping_add(u16::from(byte));
     }
     sum
 }

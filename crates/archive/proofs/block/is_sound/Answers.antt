@@ -1,5 +1,5 @@
 -- `archive::block::is_sound` meets its contract.
-use Rattle.std.proofs.Common.{arith, sym, ◌∙◌, ◌≡◌}
+use Rattle.std.proofs.Common.{refl, arith, sym, ◌∙◌, ◌≡◌}
 use Rattle.archive.specs.Block.{used}
 use Rattle.archive.proofs.BlockParts.{sound_size, sound_count, sound_tests, used_lem}
 use Rattle.archive.proofs.block.is_sound.Goals as goal
@@ -19,4 +19,4 @@ returns c =
     let rest = c.split_at.ensures in
     let parts = c.split_at-2.ensures in
     sound_tests _ c.if-block-ne-BLOCK.false c.if-count-gt-CAPACITY.false (count (goal.at.returns c).After-from-count) rest.back parts.front parts.back
-    (c.from-sum.ensures ∙ c.number_at-2.ensures) c.sum_of.ensures.sum c.sum_of-2.ensures.sum c.sum_of-remainder.ensures.sum c.whole_lines.ensures
+    c.number_at-2.ensures c.sum_of.ensures c.sum_of-2.ensures refl c.are_zero.ensures c.whole_lines.ensures
