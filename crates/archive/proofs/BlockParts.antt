@@ -12,6 +12,8 @@ use lib.Seq.{drop-drop, drop-length}
 use borrow.Author.Tests.{eq-eqb, ne_eqb, le-leb, lt-leb, eqb-true, leb-true}
 use Rattle.std.proofs.Common.{w16, sum, replicate, Some}
 use Rattle.std.specs.Int.{to_le_bytes}
+use Rattle.std.specs.Int.Bits.{bit_or, or_zero_l}
+use Rattle.std.proofs.lemmas.Nat.{le_or_l}
 use Rattle.buffer.specs.Overwrite.{overwrite}
 use Rattle.buffer.proofs.Overwrite.{overwrite_joins, overwrite_start}
 use Rattle.std.specs.Prelude.{Result, Ok, Err}
@@ -44,6 +46,19 @@ zeros_test (byte ∷ l) =
     elim (ℕ_discrete byte 0) [
       | yes is ↦ rw (eq-eqb byte 0 is, sum_first byte l, is, zero-add) (zeros_test l)
       | no isnt ↦ rw (ne_eqb byte 0 isnt, ne_eqb (sum (byte ∷ l)) 0 (omega (arith, sum_first byte l, isnt))) refl
+    ]
+
+-- Bits that are gathered are none where the sum is 0.
+pub gathered_more : (gathered byte total : ℕ) → eqb gathered 0 ≡ eqb total 0 → eqb (bit_or gathered byte) 0 ≡ eqb (total + byte) 0
+gathered_more gathered byte total same =
+    elim (ℕ_discrete gathered 0) [
+      | yes none ↦
+          let nothing : total ≡ 0 = eqb-true total 0 (sym same ∙ eq-eqb gathered 0 none) in
+          rw (none, or_zero_l byte, nothing, zero-add byte) refl
+      | no some ↦
+          let something : total ≡ 0 → ⊥ = λ is. some (eqb-true gathered 0 (same ∙ eq-eqb total 0 is)) in
+          let more = le_or_l gathered byte in
+          ne_eqb (bit_or gathered byte) 0 (omega (arith, more, some)) ∙ sym (ne_eqb (total + byte) 0 (omega (arith, something)))
     ]
 
 -- ── the block that holds some lines ──

@@ -84,7 +84,11 @@ fn whole_lines(bytes: &[u8]) -> bool
 fn are_zero(bytes: &[u8]) -> bool
     ensures { result ≡ list_all (λ byte. eqb byte 0) bytes.now }
 {
-    bytes.iter().all(|&byte| byte == 0)
+    let mut gathered = 0;
+    for &byte in bytes {
+        gathered |= byte;
+    }
+    gathered == 0
 }
 
 // The sum modulo 65536.
