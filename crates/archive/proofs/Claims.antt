@@ -18,7 +18,7 @@ use Rattle.archive.specs.Block.{whole_lines}
 use Rattle.archive.specs.Packing.{storable, contents}
 use Rattle.archive.specs.Stream.{last_end, first_length, line_ends}
 use Rattle.archive.specs.Claims.{HoldsLines, NoLineSplit, SameBytes, SameLines, OpensWhereFull, LinesCounted}
-use Rattle.archive.proofs.Lines.{by_lines, or_none_left, or_none_right, within_line, beyond_line, last_end_append, last_end_unended, last_end_line}
+use Rattle.archive.proofs.Lines.{by_lines, ended_some, or_none_left, or_none_right, within_line, beyond_line, last_end_append, last_end_unended, last_end_line}
 use Rattle.archive.proofs.Counting.{first_most}
 use Rattle.archive.proofs.Packing.{whole_line, whole_unended, storable_unended, first_leaves, first_none, first_contents, contents_none}
 use Rattle.archive.proofs.Settled.{first_capacity}
@@ -110,11 +110,6 @@ blocks_few =
     (λ t s some known. omega (arith, known, length-drop (first_length t) t, first_most t, some))
 
 -- ── a block is opened where the line does not fit ──
-pub ended_some : (l : List ℕ) → ended l ≡ true → 0 < last_end l
-unfolding ended last_end
-ended_some [] e = absurd (false≢true e)
-ended_some (byte ∷ l) e = rw e (omega arith)
-
 -- The first line with its end is whole in so many bytes.
 module _ (line rest : List ℕ) (e : ended line ≡ false) (room : ℕ) (more : length line < room) where
   part_line : take room (line ++ 10 ∷ rest) ≡ line ++ 10 ∷ take (room - (length line + 1)) rest

@@ -16,7 +16,7 @@ use Rattle.memchr.specs.Find.{IsLastByte, Nowhere, Passes, is_byte}
 use Rattle.basis.proofs.Choice.{cond_cases}
 use Rattle.text.specs.LineEnd.{ended}
 use Rattle.text.proofs.LineEnd.{ended_append, ended_cases, line_cases}
-use Rattle.archive.specs.Stream.{last_end}
+use Rattle.archive.specs.Stream.{last_end, first_length}
 
 -- ── by lines ──
 -- What holds of no bytes, of bytes without byte 10, and of a line with its end where it holds of what comes behind, holds of all bytes.
@@ -51,6 +51,11 @@ pub last_end_unended : (l : List ℕ) → ended l ≡ false → last_end l ≡ 0
 unfolding last_end
 last_end_unended [] e = refl
 last_end_unended (byte ∷ l) e = rw e refl
+
+pub ended_some : (l : List ℕ) → ended l ≡ true → 0 < last_end l
+unfolding ended last_end
+ended_some [] e = absurd (false≢true e)
+ended_some (byte ∷ l) e = rw e (omega arith)
 
 pub last_end_append : (a b : List ℕ) → ended b ≡ true → last_end (a ++ b) ≡ length a + last_end b
 unfolding last_end
@@ -92,8 +97,22 @@ beyond_line line rest room e h =
     rw (take-append-le room line (10 ∷ rest) h) (last_end_unended (take room line) (unended_take line room e))
 
 -- ── as the last byte 10 is searched ──
-pub take_front : (l : List ℕ) {n : ℕ} → n ≡ min (length l) 508 → take n l ≡ take 508 l
-take_front l is = rw (is, min_comm (length l) 508) (take_min 508 l)
+-- Among the first 508 bytes, or all where there are fewer; in their last part first.
+module _ (text : List ℕ) (place : ℕ) {far near : List ℕ} {count : ℕ} (c : count ≡ min (length text) 508) (f : far ≡ take place (take count text)) (n : near ≡ drop place (take count text)) where
+  whole_front : last_end (take 508 text) ≡ last_end (far ++ near)
+  whole_front =
+      let same : take count text ≡ take 508 text = rw (c, min_comm (length text) 508) (take_min 508 text) in
+      rw (f, n, take-append-drop place (take count text), same) refl
+
+  pub first_far : last_end near ≡ 0 → last_end far ≡ first_length text
+  first_far none =
+      ended_cases (last_end far ≡ last_end (take 508 text)) near
+      (λ e. absurd (let no· : ⊥ = omega (arith, ended_some near e, none) in no·)) (λ e. sym (whole_front ∙ last_end_unended_behind far near e))
+
+  pub first_near : (last_end near ≡ 0 → ⊥) → length far + last_end near ≡ first_length text
+  first_near some =
+      ended_cases (length far + last_end near ≡ last_end (take 508 text)) near
+      (λ e. sym (whole_front ∙ last_end_append far near e)) (λ e. absurd (some (last_end_unended near e)))
 
 unended_nowhere : (l : List ℕ) (from : ℕ) → Nowhere (Passes (is_byte 10) l) from (length l) → ended (drop from l) ≡ false
 unfolding ended

@@ -14,11 +14,12 @@ use Rattle.text.specs.LineEnd.{ended}
 use Rattle.archive.specs.Block.{block_of}
 use Rattle.archive.specs.Packing.{storable, archive_of}
 use Rattle.archive.specs.Stream.{last_end, first_length, settled, packed_length, packed_of, unpacked_of, Run, stops, reads, packs, RunWritesArchive, WholePacked, PackedUpToBadLine, PackedIsStorable}
+use Rattle.archive.proofs.Lines.{ended_some}
 use Rattle.archive.proofs.Counting.{first_most}
 use Rattle.archive.proofs.Packing.{contents_none}
 use Rattle.archive.proofs.Settled.{packed_cases, packed_none, packed_more, packed_storable, part_contents}
 use Rattle.archive.proofs.Storing.{all_packed}
-use Rattle.archive.proofs.Claims.{blocks_few, ended_some}
+use Rattle.archive.proofs.Claims.{blocks_few}
 use Rattle.text.proofs.LineEnd.{ended_cases}
 
 -- ── at the end of the input ──

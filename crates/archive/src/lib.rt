@@ -5,7 +5,7 @@
 ghost use Rattle.std.specs.Prelude.{◌≡◌};
 ghost use Rattle.basis.specs.Refusal.{numbered};
 ghost use Rattle.archive.specs.Entry.{block_count, stored, archived};
-ghost use Rattle.archive.specs.Stream.{first_length, line_ends, packed_into};
+ghost use Rattle.archive.specs.Stream.{last_end, first_length, line_ends, packed_into};
 
 mod block;
 
@@ -15,6 +15,9 @@ use block::{BLOCK, CAPACITY};
 use memchr::memrchr;
 
 const LINE_END: u8 = b'\n';
+
+// Most lines of a schedule have no more bytes with their end.
+const SHORT_LINE: usize = 96;
 
 // What the functions of the C interface return: `wallcheck_archived` in the header.
 #[repr(C)]
@@ -121,13 +124,26 @@ pub fn count_line_ends(text: &[u8]) -> usize
     count
 }
 
-// How many bytes the first block of a text takes: of the first 508 those that are whole lines.
+// How many bytes the first block of a text takes: of the first 508 those that are whole lines. Most lines are short, so that the last bytes of these are
+// searched first.
 fn first_length(text: &[u8]) -> usize
     ensures { result ≡ first_length text.now }
 {
     let front = &text[..text.len().min(CAPACITY)];
-    match memrchr(LINE_END, front) {
-        Some(end) => end + 1,
+    let (far, near) = front.split_at(front.len().saturating_sub(SHORT_LINE));
+    let length = last_end(near);
+    if length == 0 {
+        return last_end(far);
+    }
+    far.len() + length
+}
+
+// How many bytes stand up to and including the last byte 10.
+fn last_end(bytes: &[u8]) -> usize
+    ensures { result ≡ last_end bytes.now }
+{
+    match memrchr(LINE_END, bytes) {
+        Some(place) => place + 1,
         None => 0,
     }
 }
