@@ -3,7 +3,7 @@
 # make plain     the plain Rust programs of the benchmark do the same job: their output is the stored expected output
 # make bench     speed beside the same job in plain Rust, as ratios; with BEFORE=FOLDER, an earlier checkout in which
 #                `make bench` has run, also beside its library and program
-# make install   library, header, pkg-config file, program and manual, PREFIX=/usr/local
+# make install   library, header, pkg-config file, programs and manual, PREFIX=/usr/local
 # make test      everything
 PREFIX ?= /usr/local
 # The first number, which is also the shared library's, is raised where a struct or a function's arguments change, the
@@ -12,6 +12,8 @@ VERSION = 4.5.0
 SONAME = libwallcheck.so.$(firstword $(subst ., ,$(VERSION)))
 SHARED = libwallcheck.so.$(VERSION)
 PROGRAM = crates/schedule/out/schedule
+# What is installed, each with a script of its name.
+PROGRAMS = schedule pack unpack
 FUNCTIONS = wallcheck_edition wallcheck_line wallcheck_line_taken wallcheck_line_into wallcheck_row wallcheck_row_into \
 	wallcheck_minimum_load_line wallcheck_minimum_load_line_into wallcheck_minimum_load_row wallcheck_minimum_load_row_into \
 	wallcheck_archive_count wallcheck_archive_write wallcheck_archive_read
@@ -63,7 +65,7 @@ bench: lib plain
 	@WALLCHECK_BEFORE="$(BEFORE)" $(BUILD)/cargo/release/bench $(PROGRAM) crates/pack/out/pack crates/unpack/out/unpack
 
 install: lib
-	@./schedule </dev/null
+	@for program in $(PROGRAMS); do ./$$program </dev/null || exit 1; done
 	install -d $(addprefix $(DESTDIR)$(PREFIX)/,bin include lib/pkgconfig libexec/wallcheck share/doc/wallcheck)
 	install -m 644 dist/libwallcheck.a $(DESTDIR)$(PREFIX)/lib/
 	install -m 755 dist/$(SHARED) $(DESTDIR)$(PREFIX)/lib/
@@ -71,8 +73,10 @@ install: lib
 	ln -sf $(SONAME) $(DESTDIR)$(PREFIX)/lib/libwallcheck.so
 	install -m 644 include/wallcheck.h $(DESTDIR)$(PREFIX)/include/
 	sed -e 's,@PREFIX@,$(PREFIX),' -e 's,@VERSION@,$(VERSION),' wallcheck.pc.in >$(DESTDIR)$(PREFIX)/lib/pkgconfig/wallcheck.pc
-	install -m 755 $(PROGRAM) $(DESTDIR)$(PREFIX)/libexec/wallcheck/
-	install -m 755 schedule $(DESTDIR)$(PREFIX)/bin/wallcheck-schedule
+	for program in $(PROGRAMS); do \
+		install -m 755 crates/$$program/out/$$program $(DESTDIR)$(PREFIX)/libexec/wallcheck/ && \
+		install -m 755 $$program $(DESTDIR)$(PREFIX)/bin/wallcheck-$$program || exit 1; \
+	done
 	install -m 644 docs/MANUAL.md $(DESTDIR)$(PREFIX)/share/doc/wallcheck/
 
 test:

@@ -1,0 +1,2 @@
+-- Bounds on what is packed.
+pub mod Taken

@@ -1,0 +1,152 @@
+// Packs the lines of standard input into blocks of 512 bytes on standard output.
+//
+// That the blocks are those of the whole text, wherever the input is cut into pieces, is proved in `archive`; here it is proved that the
+// program is safe and ends. No contract says what the system moves, so it is assumed that `read` puts the next bytes of the input first in
+// the buffer that it is lent and returns their number, that `write_all` hands on the bytes that it is lent, and that both return.
+#![tactic(auto)]
+
+ghost use Rattle.std.specs.Prelude.{◌≡◌, ◌+◌, ◌≤◌, length};
+
+use std::fmt;
+use std::io::Read;
+use std::process::ExitCode;
+
+// How much is held at most.
+const INPUT: usize = 65536;
+
+// Two blocks that follow one another hold more than 508 bytes together, so the blocks of one input nearly always fit.
+const OUTPUT: usize = 131072;
+
+const BLOCK: usize = 512;
+
+// With so many bytes at hand it is known what the next block holds.
+const CAPACITY: usize = 508;
+
+// What ends the program before its input does. Lines are counted from 1 on.
+#[derive(Clone, Copy, Debug, PartialEq, Eq)]
+enum Failure {
+    Read,
+    Write,
+    LineTooLong { line: u64 },
+    LineWithoutEnd { line: u64 },
+}
+
+impl fmt::Display for Failure {
+    fn fmt<W: fmt::Write>(&self, f: &mut fmt::Formatter<W>) -> fmt::Result {
+        match self {
+            Failure::Read => f.write_str("cannot read standard input"),
+            Failure::Write => f.write_str("cannot write standard output"),
+            Failure::LineTooLong { line } => write!(
+                f,
+                "refusal 24: line {line} is longer than 508 bytes with its end"
+            ),
+            Failure::LineWithoutEnd { line } => write!(f, "refusal 24: line {line} has no end"),
+        }
+    }
+}
+
+// The bytes that are read and not packed yet: they stand first in a buffer.
+#[derive(Drop)]
+struct Input<'a> {
+    buffer: &'a mut [u8],
+    held: usize,
+    // How many lines are packed.
+    lines: u64,
+    ghost within: { held ≤ length buffer.now },
+}
+
+impl<'a> Input<'a> {
+    // Packs what is settled, as far as `output` has room for it.
+    fn pack(&mut self, ended: bool, output: &mut [u8; OUTPUT]) -> archive::Packed
+        ensures taken { self.old.held ≡ self.new.held + result.taken }
+        ensures blocks { result.blocks ≤ 256 }
+    {
+        let held = self.held;
+        let buffer = &mut *self.buffer;
+        let packed = archive::pack(&buffer[..held], ended, output);
+        let taken = packed.taken;
+        let lines = archive::count_line_ends(&buffer[..taken]);
+        buffer.copy_within(taken..held, 0);
+        self.held = held - taken;
+        self.lines = self.lines.saturating_add(lines as u64);
+        packed
+    }
+
+    // Where `pack` takes nothing, whether more can be read: less than 508 bytes are held then, and after the end of the input none.
+    fn check_rest(&self, ended: bool) -> Result<(), Failure> {
+        let line = self.lines.saturating_add(1);
+        if self.held >= CAPACITY {
+            return Err(Failure::LineTooLong { line });
+        }
+        if ended & (self.held > 0) {
+            return Err(Failure::LineWithoutEnd { line });
+        }
+        Ok(())
+    }
+}
+
+// Packs and writes all that is settled of the bytes held.
+fn pack_all(
+    rt: &impl Print,
+    input: &mut Input<'_>,
+    ended: bool,
+    output: &mut [u8; OUTPUT],
+) -> Result<(), Failure> {
+    loop {
+        let packed = input.pack(ended, output);
+        rt.write_all(&output[..BLOCK * packed.blocks])
+            .map_err(|_| Failure::Write)?;
+        if packed.taken == 0 {
+            return input.check_rest(ended);
+        }
+    }
+}
+
+// Reads behind the bytes held, and packs. Whether there may be more to read.
+fn turn<R: Print, I: Read>(
+    rt: &R,
+    reader: &mut I,
+    input: &mut Input<'_>,
+    output: &mut [u8; OUTPUT],
+) -> Result<bool, Failure> {
+    let count = reader
+        .read(&mut input.buffer[input.held..])
+        .map_err(|_| Failure::Read)?;
+    input.held += count;
+    let ended = count == 0;
+    pack_all(rt, input, ended, output)?;
+    Ok(!ended)
+}
+
+// Nothing says that an input ends, so the turns are counted, up to a number that no run reaches.
+fn run<R: Print, I: Read>(
+    rt: &R,
+    reader: &mut I,
+    input: &mut Input<'_>,
+    output: &mut [u8; OUTPUT],
+) -> Result<(), Failure> {
+    for _ in 0..u64::MAX {
+        if !turn(rt, reader, input, output)? {
+            break;
+        }
+    }
+    Ok(())
+}
+
+fn main(rt: HostRuntime) -> ExitCode {
+    let mut buffer = [0u8; INPUT];
+    let mut output = [0u8; OUTPUT];
+    let mut input = Input {
+        buffer: &mut buffer,
+        held: 0,
+        lines: 0,
+    };
+    match run(&rt, &mut rt.stdin(), &mut input, &mut output) {
+        Ok(()) => ExitCode::SUCCESS,
+        Err(failure) => {
+            // Where that cannot be written either, there is nothing left to do.
+            let _ = eprintln!(rt; "pack: {failure}");
+            ExitCode::FAILURE
+        }
+    }
+}

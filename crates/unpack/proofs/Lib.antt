@@ -1,0 +1,2 @@
+-- A bound on what a block yields.
+pub mod Lines
