@@ -1,4 +1,5 @@
-// Packs the lines of standard input into blocks of 512 bytes on standard output.
+// Packs the lines of standard input into blocks of 512 bytes on standard output. A line that no block can hold ends it, with the lines before
+// it written.
 //
 // That the blocks are those of the whole text, wherever the input is cut into pieces, is proved in `archive`; here it is proved that the
 // program is safe and ends. No contract says what the system moves, so it is assumed that `read` puts the next bytes of the input first in
@@ -14,7 +15,8 @@ use std::process::ExitCode;
 // How much is held at most.
 const INPUT: usize = 65536;
 
-// Two blocks that follow one another hold more than 508 bytes together, so the blocks of one input nearly always fit.
+// Two blocks that follow one another hold more than 508 bytes together, so what is held nearly always fits. Where it does not, the rest is
+// packed in another turn.
 const OUTPUT: usize = 131072;
 
 const BLOCK: usize = 512;
@@ -72,7 +74,8 @@ impl<'a> Input<'a> {
         packed
     }
 
-    // Where `pack` takes nothing, whether more can be read: less than 508 bytes are held then, and after the end of the input none.
+    // Where `pack` takes nothing, that nothing is wrong: less than 508 bytes are held then, which leaves room to read, and behind the end of
+    // the input none.
     fn check_rest(&self, ended: bool) -> Result<(), Failure> {
         let line = self.lines.saturating_add(1);
         if self.held >= CAPACITY {
