@@ -97,7 +97,10 @@ beyond_line line rest room e h =
     rw (take-append-le room line (10 ∷ rest) h) (last_end_unended (take room line) (unended_take line room e))
 
 -- ── as the last byte 10 is searched ──
--- Among the first 508 bytes, or all where there are fewer; in their last part first.
+-- Among the first 508 bytes, or all where there are fewer.
+pub front_is : (text : List ℕ) {count : ℕ} → count ≡ min (length text) 508 → last_end (take count text) ≡ first_length text
+front_is text c = rw (c, min_comm (length text) 508) (ap last_end (take_min 508 text))
+
 module _ (text : List ℕ) (place : ℕ) {far near : List ℕ} {count : ℕ} (c : count ≡ min (length text) 508) (f : far ≡ take place (take count text)) (n : near ≡ drop place (take count text)) where
   whole_front : last_end (take 508 text) ≡ last_end (far ++ near)
   whole_front =

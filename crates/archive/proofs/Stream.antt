@@ -2,7 +2,7 @@
 use Prim.Native.Nat.{ℕ, zero, suc, ◌+◌, ◌≤◌}
 use native.Mathlib.Decide.{ℕ_discrete}
 use native.Mathlib.Omega.{arith}
-use mathlib.Core.Bool.{true, false}
+use mathlib.Core.Bool.{Bool, true, false}
 use mathlib.Core.List.{List, [], ◌++◌, append_assoc, append-nil}
 use mathlib.Core.Path.{◌≡◌, refl, sym, ap, ◌∙◌}
 use lib.ListN.{length, take, drop, length-append, length-drop}
@@ -13,7 +13,7 @@ use Rattle.std.proofs.lemmas.List.{take-append-le, drop-append-le}
 use Rattle.text.specs.LineEnd.{ended}
 use Rattle.archive.specs.Block.{block_of}
 use Rattle.archive.specs.Packing.{storable, archive_of}
-use Rattle.archive.specs.Stream.{last_end, first_length, settled, packed_length, packed_of, unpacked_of, Run, stops, reads, packs, RunWritesArchive, WholePacked, PackedUpToBadLine, PackedIsStorable}
+use Rattle.archive.specs.Stream.{last_end, first_length, settled, packed_length, packed_of, unpacked_of, Run, stops, reads, packs, finishes, RunWritesArchive, WholePacked, PackedUpToBadLine, PackedIsStorable}
 use Rattle.archive.proofs.Lines.{ended_some}
 use Rattle.archive.proofs.Counting.{first_most}
 use Rattle.archive.proofs.Packing.{contents_none}
@@ -67,12 +67,11 @@ first_settled : (held input : List ℕ) → settled false held ≡ true → firs
 first_settled held input known = ap last_end (take-append-le 508 held input (leb-true 508 (length held) known))
 
 splits_first :
-    (most m : ℕ) (held input : List ℕ) → settled false held ≡ true → (first_length held ≡ 0 → ⊥) → storable (take m (drop (first_length held) held)) ≡ true
+    (most m : ℕ) (held input : List ℕ) → first_length (held ++ input) ≡ first_length held → (first_length held ≡ 0 → ⊥) → storable (take m (drop (first_length held) held)) ≡ true
     → length (held ++ input) ≤ suc most → Splits most (drop (first_length held) held) input m → Splits (suc most) held input (first_length held + m)
-splits_first most m held input known some s few others =
+splits_first most m held input first some s few others =
     let n = first_length held in
     let within : n ≤ length held = first_most held in
-    let first = first_settled held input known in
     let behind = drop n held in
     let front : take (first_length (held ++ input)) (held ++ input) ≡ take n held = ap (λ k. take k (held ++ input)) first ∙ take-append-le n held input within in
     let rest : drop (first_length (held ++ input)) (held ++ input) ≡ behind ++ input = ap (λ k. drop k (held ++ input)) first ∙ drop-append-le n held input within in
@@ -90,37 +89,56 @@ splits_first most m held input known some s few others =
     whole ∙ ap (λ a. block ++ a) others ∙ sym (append_assoc block (archive_of (take m behind)) (archive_from most (drop m behind ++ input)))
     ∙ ap (λ a. a ++ archive_from most (drop m behind ++ input)) (sym (archive_more held m some s)) ∙ ap (λ a. archive_of (take (n + m) held) ++ a) more
 
-splits : (blocks most : ℕ) (held input : List ℕ) → length (held ++ input) ≤ most → Splits most held input (packed_length blocks false held)
+-- What the first block takes of bytes at hand, once it is settled, does not change by what comes behind them.
+abbrev Unchanged : Bool → List ℕ → Type 0
+Unchanged ended· input = (l : List ℕ) → settled ended· l ≡ true → first_length (l ++ input) ≡ first_length l
+
+splits :
+    (ended· : Bool) (input : List ℕ) → Unchanged ended· input → (blocks most : ℕ) (held : List ℕ) → length (held ++ input) ≤ most
+    → Splits most held input (packed_length blocks ended· held)
 unfolding packed_length
-splits zero most held input few = splits_none most held input
-splits (suc blocks) zero held input few =
+splits ended· input same zero most held few = splits_none most held input
+splits ended· input same (suc blocks) zero held few =
     let none : first_length held ≡ 0 = omega (arith, first_most held, length-append held input, few) in
-    rw (packed_none (suc blocks) false held none) (splits_none zero held input)
-splits (suc blocks) (suc most) held input few =
+    rw (packed_none (suc blocks) ended· held none) (splits_none zero held input)
+splits ended· input same (suc blocks) (suc most) held few =
     let n = first_length held in
-    let m = packed_length blocks false (drop n held) in
-    packed_cases blocks false held (Splits (suc most) held input) (splits_none (suc most) held input)
+    let m = packed_length blocks ended· (drop n held) in
+    packed_cases blocks ended· held (Splits (suc most) held input) (splits_none (suc most) held input)
     (λ known some.
     let fewer : length (drop n held ++ input) ≤ most =
     omega (arith, length-append (drop n held) input, length-drop n held, length-append held input, few, some, first_most held) in
-    splits_first most m held input known some (packed_storable blocks false (drop n held)) few (splits blocks most (drop n held) input fewer))
+    splits_first most m held input (same held known) some (packed_storable blocks ended· (drop n held)) few
+    (splits ended· input same blocks most (drop n held) fewer))
 
-run_writes : {held input written rest : List ℕ} → Run held input written rest → (most : ℕ) → length rest ≤ most
-    → written ++ archive_from most rest ≡ archive_from (length (held ++ input)) (held ++ input)
-run_writes (stops {held}) most enough = rw (append-nil held) (archive_enough most (length held) held enough (omega arith))
-run_writes (reads {held} {input} {written} {rest} piece run) most enough =
-    run_writes run most enough ∙ ap (λ t. archive_from (length t) t) (append_assoc held piece input)
-run_writes (packs {held} {input} {written} {rest} blocks run) most enough =
-    let whole = length (held ++ input) in
-    let n = packed_length blocks false held in
-    let behind = drop n held ++ input in
-    let fewer : length behind ≤ whole = omega (arith, length-append (drop n held) input, length-drop n held, length-append held input) in
-    append_assoc (archive_of (take n held)) written (archive_from most rest) ∙ ap (λ a. archive_of (take n held) ++ a) (run_writes run most enough)
-    ∙ ap (λ a. archive_of (take n held) ++ a) (archive_enough (length behind) whole behind (omega arith) fewer)
-    ∙ sym (splits blocks whole held input (omega arith))
+-- What is written and what can be packed of the rest make up the archive, before a step where they do behind it.
+module _ (ended· : Bool) (held input written rest : List ℕ) (same : Unchanged ended· input) (blocks : ℕ) where
+  step_writes :
+      (written ++ archive_from (length rest) rest
+      ≡ archive_from (length (unpacked_of blocks ended· held ++ input)) (unpacked_of blocks ended· held ++ input))
+      → archive_of (packed_of blocks ended· held) ++ written ++ archive_from (length rest) rest ≡ archive_from (length (held ++ input)) (held ++ input)
+  step_writes others =
+      let whole = length (held ++ input) in
+      let n = packed_length blocks ended· held in
+      let behind = drop n held ++ input in
+      let fewer : length behind ≤ whole = omega (arith, length-append (drop n held) input, length-drop n held, length-append held input) in
+      append_assoc (archive_of (take n held)) written (archive_from (length rest) rest) ∙ ap (λ a. archive_of (take n held) ++ a) others
+      ∙ ap (λ a. archive_of (take n held) ++ a) (archive_enough (length behind) whole behind (omega arith) fewer)
+      ∙ sym (splits ended· input same blocks whole held (omega arith))
+
+run_writes : {held input written rest : List ℕ} → Run held input written rest
+    → written ++ archive_from (length rest) rest ≡ archive_from (length (held ++ input)) (held ++ input)
+run_writes (stops {held}) = ap (λ t. archive_from (length t) t) (sym (append-nil held))
+run_writes (reads {held} {input} {written} {rest} piece run) = run_writes run ∙ ap (λ t. archive_from (length t) t) (append_assoc held piece input)
+run_writes (packs {held} {input} {written} {rest} blocks run) =
+    step_writes false held input written rest (λ l known. first_settled l input known) blocks (run_writes run)
+run_writes (finishes {held} {written} {rest} blocks run) =
+    step_writes true held [] written rest (λ l known. ap first_length (append-nil l)) blocks (run_writes run)
 
 pub run_writes_archive : RunWritesArchive
-run_writes_archive input written rest run most enough = run_writes run most enough
+run_writes_archive input written rest run none =
+    let nothing : archive_from (length rest) rest ≡ [] = ap (λ n. archive_of (take n rest)) (packed_none (length rest) true rest none) ∙ archive_none in
+    sym (append-nil written) ∙ ap (λ a. written ++ a) (sym nothing) ∙ run_writes run
 
 -- ── what is packed of a whole input ──
 pub whole_packed : WholePacked

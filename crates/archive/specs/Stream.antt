@@ -1,5 +1,5 @@
 -- What is packed of the bytes at hand, wherever an input is cut into pieces, and that the pieces make up its archive.
-use Rattle.std.specs.Prelude.{ℕ, zero, suc, ◌+◌, ◌/◌, ◌≤◌, Bool, true, false, ◌||◌, cond, List, [], ◌∷◌, ◌++◌, ◌≡◌, eqb, leb, length, take, drop}
+use Rattle.std.specs.Prelude.{ℕ, zero, suc, ◌+◌, ◌/◌, Bool, true, false, ◌||◌, cond, List, [], ◌∷◌, ◌++◌, ◌≡◌, eqb, leb, length, take, drop}
 use Rattle.std.specs.List.{count_by}
 use Rattle.text.specs.LineEnd.{ended}
 use Rattle.buffer.specs.Overwrite.{overwrite}
@@ -49,18 +49,19 @@ packed_into ended· bytes buffer =
     }
 
 -- A run of `pack`: `Run held input written rest` says that with the bytes `held` at hand it reads `input`, writes `written` and has `rest` at hand then. It
--- reads pieces of any length and packs any number of blocks, in any order.
+-- reads pieces of any length and packs any number of blocks, in any order; with `ended` only where nothing is left to read.
 pub data Run : List ℕ → List ℕ → List ℕ → List ℕ → Type 0 where
   stops : {held : List ℕ} → Run held [] [] held
   reads : {held input written rest : List ℕ} (piece : List ℕ) → Run (held ++ piece) input written rest → Run held (piece ++ input) written rest
   packs : {held input written rest : List ℕ} (most : ℕ) → Run (unpacked_of most false held) input written rest →
       Run held input (archive_of (packed_of most false held) ++ written) rest
+  finishes : {held written rest : List ℕ} (most : ℕ) → Run (unpacked_of most true held) [] written rest →
+      Run held [] (archive_of (packed_of most true held) ++ written) rest
 
--- A run that has read the whole input, with what is packed of the rest at its end, has written the archive of what can be packed of that input.
+-- A run that has read the whole input and has nothing at hand that a block takes has written the archive of what can be packed of that input.
 abbrev pub RunWritesArchive : Type 0
 RunWritesArchive =
-    (input written rest : List ℕ) → Run [] input written rest → (most : ℕ) → length rest ≤ most
-    → written ++ archive_of (packed_of most true rest) ≡ archive_of (packed_of (length input) true input)
+    (input written rest : List ℕ) → Run [] input written rest → first_length rest ≡ 0 → written ≡ archive_of (packed_of (length input) true input)
 
 -- That is the whole input, where it can be stored; else what stands before the first line that no block can hold or that has no end: whole lines, and behind
 -- them 508 bytes, or fewer at the end, without byte 10.

@@ -8,7 +8,7 @@ ghost use Rattle.archive.specs.Block.{number_at, block_of, whole_lines, sound, r
 use crate::LINE_END;
 use basis::Refusal;
 
-pub(crate) const BLOCK: usize = 512;
+pub const BLOCK: usize = 512;
 
 // The lines begin behind the number of bytes used and the sum, of two bytes each.
 const COUNT: usize = 0;
@@ -18,7 +18,7 @@ const SUM: usize = 2;
 const LINES: usize = 4;
 
 // How many bytes of lines a block holds at most.
-pub(crate) const CAPACITY: usize = BLOCK - LINES;
+pub const CAPACITY: usize = BLOCK - LINES;
 
 // Writes the block that holds `lines`.
 pub(crate) fn write_block(lines: &[u8], block: &mut [u8])
@@ -60,8 +60,9 @@ fn is_sound(block: &[u8]) -> bool
     }
     let (_, rest) = block.split_at(LINES);
     let (lines, remainder) = rest.split_at(count);
-    let others = sum_of(&block[..SUM]).wrapping_add(sum_of(rest));
-    (number_at(block, SUM) == others) & are_zero(remainder) & whole_lines(lines)
+    // The sum of all bytes has those of the stated sum in it. All are summed at once, which is quicker.
+    let stated = number_at(block, SUM).wrapping_add(sum_of(&block[SUM..LINES]));
+    (stated == sum_of(block)) & are_zero(remainder) & whole_lines(lines)
 }
 
 // The number of the two bytes at a place, low byte first.

@@ -10,8 +10,7 @@ ghost use Rattle.archive.specs.Stream.{last_end, first_length, line_ends, packed
 mod block;
 
 use basis::Refusal;
-pub use block::read_block;
-use block::{BLOCK, CAPACITY};
+pub use block::{BLOCK, CAPACITY, read_block};
 use memchr::memrchr;
 
 const LINE_END: u8 = b'\n';
@@ -124,21 +123,15 @@ pub fn count_line_ends(text: &[u8]) -> usize
     count
 }
 
-// How many bytes the first block of a text takes: of the first 508 those that are whole lines. Most lines are short, so that the last bytes of these are
-// searched first.
+// How many bytes the first block of a text takes: of the first 508 those that are whole lines.
 fn first_length(text: &[u8]) -> usize
     ensures { result ≡ first_length text.now }
 {
-    let front = &text[..text.len().min(CAPACITY)];
-    let (far, near) = front.split_at(front.len().saturating_sub(SHORT_LINE));
-    let length = last_end(near);
-    if length == 0 {
-        return last_end(far);
-    }
-    far.len() + length
+    last_end(&text[..text.len().min(CAPACITY)])
 }
 
 // How many bytes stand up to and including the last byte 10.
+#[inline(never)]
 fn last_end(bytes: &[u8]) -> usize
     ensures { result ≡ last_end bytes.now }
 {

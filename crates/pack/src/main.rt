@@ -8,6 +8,8 @@
 
 ghost use Rattle.std.specs.Prelude.{◌≡◌, ◌+◌, ◌≤◌, length};
 
+use archive::{BLOCK, CAPACITY};
+use basis::Refusal;
 use std::fmt;
 use std::io::Read;
 use std::process::ExitCode;
@@ -18,11 +20,6 @@ const INPUT: usize = 65536;
 // Two blocks that follow one another hold more than 508 bytes together, so what is held nearly always fits. Where it does not, the rest is
 // packed in another turn.
 const OUTPUT: usize = 131072;
-
-const BLOCK: usize = 512;
-
-// With so many bytes at hand it is known what the next block holds.
-const CAPACITY: usize = 508;
 
 // What ends the program before its input does. Lines are counted from 1 on.
 #[derive(Clone, Copy, Debug, PartialEq, Eq)]
@@ -35,14 +32,17 @@ enum Failure {
 
 impl fmt::Display for Failure {
     fn fmt<W: fmt::Write>(&self, f: &mut fmt::Formatter<W>) -> fmt::Result {
+        let refusal = u64::from(Refusal::TextNotStored);
         match self {
             Failure::Read => f.write_str("cannot read standard input"),
             Failure::Write => f.write_str("cannot write standard output"),
             Failure::LineTooLong { line } => write!(
                 f,
-                "refusal 24: line {line} is longer than 508 bytes with its end"
+                "refusal {refusal}: line {line} is longer than {CAPACITY} bytes with its end"
             ),
-            Failure::LineWithoutEnd { line } => write!(f, "refusal 24: line {line} has no end"),
+            Failure::LineWithoutEnd { line } => {
+                write!(f, "refusal {refusal}: line {line} has no end")
+            }
         }
     }
 }

@@ -7,14 +7,14 @@
 
 ghost use Rattle.std.specs.Prelude.{◌≡◌, ◌≤◌, length};
 
+use archive::BLOCK;
+use basis::Refusal;
 use std::fmt;
 use std::io::Read;
 use std::process::ExitCode;
 
 // How much is held at most: whole blocks.
 const INPUT: usize = 131072;
-
-const BLOCK: usize = 512;
 
 // What ends the program before its input does.
 #[derive(Clone, Copy, Debug, PartialEq, Eq)]
@@ -32,19 +32,21 @@ impl fmt::Display for Failure {
     }
 }
 
-// A block that is refused begins at this byte of the input.
+// A block that is refused, and at which byte of the input it begins.
 #[derive(Clone, Copy)]
 struct Refused {
+    refusal: Refusal,
     start: u64,
 }
 
 impl fmt::Display for Refused {
     fn fmt<W: fmt::Write>(&self, f: &mut fmt::Formatter<W>) -> fmt::Result {
+        let refusal = u64::from(self.refusal);
         let start = self.start;
         let block = start / BLOCK as u64;
         write!(
             f,
-            "refusal 23: block {block}, from byte {start} on, is left out"
+            "refusal {refusal}: block {block}, from byte {start} on, is left out"
         )
     }
 }
@@ -58,8 +60,11 @@ struct Progress {
 
 impl Progress {
     // Where that cannot be written, the exit status still tells that a block is left out.
-    fn refuse(&mut self, rt: &impl Eprint) {
-        let refused = Refused { start: self.start };
+    fn refuse(&mut self, rt: &impl Eprint, refusal: Refusal) {
+        let refused = Refused {
+            refusal,
+            start: self.start,
+        };
         let _ = eprintln!(rt; "unpack: {refused}");
         self.sound = false;
     }
@@ -97,7 +102,7 @@ impl<'a> Input<'a> {
                     output[written..written + lines.len()].copy_from_slice(lines);
                     written += lines.len();
                 }
-                Err(_) => progress.refuse(rt),
+                Err(refusal) => progress.refuse(rt, refusal),
             }
             progress.start = progress.start.saturating_add(BLOCK as u64);
         }
