@@ -19,7 +19,7 @@ use Rattle.buffer.proofs.Overwrite.{overwrite_joins, overwrite_start}
 use Rattle.std.specs.Prelude.{Result, Ok, Err}
 use Rattle.std.specs.List.{slice_get, list_all}
 use Rattle.std.proofs.lemmas.Option.{slice_get_within, get_or_from_slice_get}
-use Rattle.std.proofs.lemmas.List.Sums.{sum_by-cons, sum_by-take-drop}
+use Rattle.std.proofs.lemmas.List.Sums.{sum_by-cons}
 use Rattle.std.proofs.lemmas.List.Folds.{sum_by-replicate}
 use Rattle.basis.proofs.Choice.{and_left, and_right, cond_cases}
 use Rattle.archive.specs.Block.{two_bytes, block_of, number_at, used, sum_of_others, used_part, remainder, whole_lines, sound, read_block}
@@ -59,15 +59,6 @@ gathered_more gathered byte total same =
           let something : total ≡ 0 → ⊥ = λ is. some (eqb-true gathered 0 (same ∙ eq-eqb total 0 is)) in
           let more = le_or_l gathered byte in
           ne_eqb (bit_or gathered byte) 0 (omega (arith, more, some)) ∙ sym (ne_eqb (total + byte) 0 (omega (arith, something)))
-    ]
-
--- What is added on both sides of an equation modulo 65536 may be left out.
-cancelled : (n others own : ℕ) → n < 65536 → eqb ((n + own) % 65536) ((others + own) % 65536) ≡ eqb n (others % 65536)
-cancelled n others own below =
-    elim (ℕ_discrete n (others % 65536)) [
-      | yes is ↦ eq-eqb ((n + own) % 65536) ((others + own) % 65536) (omega (arith, is)) ∙ sym (eq-eqb n (others % 65536) is)
-      | no isnt ↦
-          ne_eqb ((n + own) % 65536) ((others + own) % 65536) (λ is. isnt (omega (arith, is, below))) ∙ sym (ne_eqb n (others % 65536) isnt)
     ]
 
 -- ── the block that holds some lines ──
@@ -143,32 +134,21 @@ module _ (block : List ℕ) where
   unfolding sound
   sound_count above = rw (lt-leb (used block) 508 above) (sym (and-false (eqb (length block) 512)))
 
-  -- The sum of all bytes, in three parts.
-  all_parts : sum block ≡ sum (take 2 block) + sum (take 2 (drop 2 block)) + sum (drop 4 block)
-  all_parts =
-      let front = sum_by-take-drop (λ n. n) block 2 in
-      let behind = sum_by-take-drop (λ n. n) (drop 2 block) 2 in
-      omega (arith, front, behind, ap sum (drop-drop 2 2 block))
-
   -- Of a block of the right length and count, the tests of sum, remainder and lines, however its parts and their sums were found.
   pub sound_tests :
-      {count total stated all : ℕ} {rest lines behind : List ℕ} {zeros whole : Bool} → length block ≡ 512 → count ≤ 508 → count ≡ used block
-      → rest ≡ drop 4 block → lines ≡ take count rest → behind ≡ drop count rest → total ≡ number_at 2 block → total < 65536
-      → stated ≡ sum (take 2 (drop 2 block)) % 65536 → all ≡ sum block % 65536 → zeros ≡ list_all (λ byte. eqb byte 0) behind
-      → whole ≡ whole_lines lines → (eqb ((total + stated) % 65536) all && zeros && whole) ≡ sound block
+      {count total front inner others : ℕ} {rest lines behind : List ℕ} {zeros whole : Bool} → length block ≡ 512 → count ≤ 508 → count ≡ used block
+      → rest ≡ drop 4 block → lines ≡ take count rest → behind ≡ drop count rest → total ≡ number_at 2 block → front ≡ sum (take 2 block) % 65536
+      → inner ≡ sum rest % 65536 → others ≡ (front + inner) % 65536 → zeros ≡ list_all (λ byte. eqb byte 0) behind → whole ≡ whole_lines lines
+      → (eqb total others && zeros && whole) ≡ sound block
   unfolding sound used_part remainder sum_of_others
-  sound_tests {count} {total} {stated} {all} {rest} {lines} {behind} {zeros} {whole} size few is r l b t below s a z w =
+  sound_tests {count} {total} {front} {inner} {others} {rest} {lines} {behind} {zeros} {whole} size few is r l b t f i o z w =
       let in_range = le-leb (used block) 508 (rw is at few) in
       let lines_is : lines ≡ used_part block = rw (r, is) at l in
       let behind_is : behind ≡ remainder block = b ∙ rw (r, is) (drop-drop (used block) 4 block) in
-      let others = sum (take 2 block) + sum (drop 4 block) in
-      let own = sum (take 2 (drop 2 block)) in
-      let left : (total + stated) % 65536 ≡ (total + own) % 65536 = omega (arith, s) in
-      let right : all ≡ (others + own) % 65536 = a ∙ ap (λ n. n % 65536) (all_parts ∙ omega arith) in
-      let test : eqb ((total + stated) % 65536) all ≡ eqb total (others % 65536) = rw (left, right) (cancelled total others own below) in
+      let others_are : others ≡ (sum (take 2 block) + sum (drop 4 block)) % 65536 = omega (arith, o, f, i, ap sum r) in
       let zeros_are : zeros ≡ list_all (λ byte. eqb byte 0) (remainder block) = z ∙ ap (list_all (λ byte. eqb byte 0)) behind_is in
       let whole_is : whole ≡ whole_lines (used_part block) = w ∙ ap whole_lines lines_is in
-      rw (eq-eqb (length block) 512 size, in_range, ← t, ← zeros_are, ← whole_is, test) (and_assoc (eqb total (others % 65536)) zeros whole)
+      rw (eq-eqb (length block) 512 size, in_range, ← t, ← others_are, ← zeros_are, ← whole_is) (and_assoc (eqb total others) zeros whole)
 
 pub sound_from : (block : List ℕ) → Sound block → true ≡ sound block
 unfolding sound

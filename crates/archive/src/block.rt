@@ -60,9 +60,8 @@ fn is_sound(block: &[u8]) -> bool
     }
     let (_, rest) = block.split_at(LINES);
     let (lines, remainder) = rest.split_at(count);
-    // The sum of all bytes has those of the stated sum in it. All are summed at once, which is quicker.
-    let stated = number_at(block, SUM).wrapping_add(sum_of(&block[SUM..LINES]));
-    (stated == sum_of(block)) & are_zero(remainder) & whole_lines(lines)
+    let others = sum_of(&block[..SUM]).wrapping_add(sum_of(rest));
+    (number_at(block, SUM) == others) & are_zero(remainder) & whole_lines(lines)
 }
 
 // The number of the two bytes at a place, low byte first.

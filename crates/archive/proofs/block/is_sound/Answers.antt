@@ -19,4 +19,4 @@ returns c =
     let rest = c.split_at.ensures in
     let parts = c.split_at-2.ensures in
     sound_tests _ c.if-block-ne-BLOCK.false c.if-count-gt-CAPACITY.false (count (goal.at.returns c).After-from-count) rest.back parts.front parts.back
-    c.number_at-2.ensures c.number_at-2.type_inv c.sum_of.ensures c.sum_of-2.ensures c.are_zero.ensures c.whole_lines.ensures
+    c.number_at-2.ensures c.sum_of.ensures c.sum_of-2.ensures refl c.are_zero.ensures c.whole_lines.ensures
