@@ -1,4 +1,5 @@
--- Laws of the packing of a text, and of blocks; the claims.
+-- Laws along the lines of a text (Lines, Packing) and along its blocks (Counting, Settled, Placed, Storing); of one block (BlockParts);
+-- the claims (Claims, BlockClaims, WrittenClaims, Stream) and the figures.
 pub mod Lines
 pub mod Packing
 pub mod Counting
@@ -6,8 +7,8 @@ pub mod Settled
 pub mod Placed
 pub mod Storing
 pub mod Claims
+pub mod BlockParts
 pub mod BlockClaims
 pub mod WrittenClaims
 pub mod Stream
 pub mod Figures
-pub mod BlockParts

@@ -70,10 +70,6 @@ last_end_unended_behind [] b e = last_end_unended b e
 last_end_unended_behind (byte ∷ a) b e =
     rw (ended_append a b, e, or-false) (ap (λ n. cond (eqb byte 10 || ended a) (suc n) 0) (last_end_unended_behind a b e))
 
-pub last_end_at_line : (line : List ℕ) → ended line ≡ false → last_end (line ++ 10 ∷ []) ≡ length line + 1
-unfolding last_end ended
-last_end_at_line line e = last_end_append line (10 ∷ []) refl
-
 -- Behind a line with its end: what is whole behind it, or the line alone.
 pub last_end_line : (line rest : List ℕ) → ended line ≡ false → last_end (line ++ 10 ∷ rest) ≡ length line + 1 + last_end rest
 unfolding last_end ended
@@ -100,22 +96,6 @@ beyond_line line rest room e h =
 -- Among the first 508 bytes, or all where there are fewer.
 pub front_is : (text : List ℕ) {count : ℕ} → count ≡ min (length text) 508 → last_end (take count text) ≡ first_length text
 front_is text c = rw (c, min_comm (length text) 508) (ap last_end (take_min 508 text))
-
-module _ (text : List ℕ) (place : ℕ) {far near : List ℕ} {count : ℕ} (c : count ≡ min (length text) 508) (f : far ≡ take place (take count text)) (n : near ≡ drop place (take count text)) where
-  whole_front : last_end (take 508 text) ≡ last_end (far ++ near)
-  whole_front =
-      let same : take count text ≡ take 508 text = rw (c, min_comm (length text) 508) (take_min 508 text) in
-      rw (f, n, take-append-drop place (take count text), same) refl
-
-  pub first_far : last_end near ≡ 0 → last_end far ≡ first_length text
-  first_far none =
-      ended_cases (last_end far ≡ last_end (take 508 text)) near
-      (λ e. absurd (let no· : ⊥ = omega (arith, ended_some near e, none) in no·)) (λ e. sym (whole_front ∙ last_end_unended_behind far near e))
-
-  pub first_near : (last_end near ≡ 0 → ⊥) → length far + last_end near ≡ first_length text
-  first_near some =
-      ended_cases (length far + last_end near ≡ last_end (take 508 text)) near
-      (λ e. sym (whole_front ∙ last_end_append far near e)) (λ e. absurd (some (last_end_unended near e)))
 
 unended_nowhere : (l : List ℕ) (from : ℕ) → Nowhere (Passes (is_byte 10) l) from (length l) → ended (drop from l) ≡ false
 unfolding ended

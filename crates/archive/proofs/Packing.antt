@@ -16,7 +16,7 @@ use Rattle.basis.proofs.Choice.{and_left}
 use Rattle.text.specs.LineEnd.{ended, lines_of}
 use Rattle.text.proofs.LineEnd.{lines_of_line, ended_cases, line_cases}
 use Rattle.archive.specs.Block.{whole_lines}
-use Rattle.archive.specs.Packing.{ended_lines, storable, packed_behind, packed, contents}
+use Rattle.archive.specs.Packing.{ended_lines, storable, packed_behind, packed, contents, archive_of}
 use Rattle.archive.specs.Stream.{last_end, first_length}
 use Rattle.archive.proofs.Lines.{by_lines, or_none_right, last_end_unended, unended_take, within_line, beyond_line}
 
@@ -185,3 +185,7 @@ first_contents t s some =
 pub contents_none : contents [] ≡ []
 unfolding contents packed ended_lines lines_of
 contents_none = refl
+
+pub archive_none : archive_of [] ≡ []
+unfolding archive_of
+archive_none = rw contents_none refl

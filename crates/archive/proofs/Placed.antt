@@ -14,7 +14,7 @@ use Rattle.archive.specs.Block.{block_of}
 use Rattle.archive.specs.Packing.{contents, archive_of}
 use Rattle.archive.specs.Stream.{first_length, settled, packed_length, packed_of, packed_into}
 use Rattle.archive.proofs.Counting.{first_most}
-use Rattle.archive.proofs.Packing.{contents_none}
+use Rattle.archive.proofs.Packing.{contents_none, archive_none}
 use Rattle.archive.proofs.Settled.{part_contents, packed_storable, packed_more, packed_few, packed_length_of, block_length, first_short}
 
 -- Of a text, `taken` bytes are in `blocks` blocks, which stand in the buffer, and there is room for `left` more.
@@ -27,14 +27,6 @@ pub record Placed (text : List ℕ) (ended· : Bool) (before out : List ℕ) (le
   pub written :
       overwrite out (512 * blocks) (archive_of (packed_of left ended· (drop taken text)))
       ≡ overwrite before 0 (archive_of (packed_of (length before / 512) ended· text))
-
-pub placed_none : (text : List ℕ) (ended· : Bool) (before : List ℕ) → Placed text ended· before before (length before / 512) 0 0
-placed_none text ended· before =
-    record { within = omega arith; room = omega arith; size = refl; bytes = omega arith; count = omega arith; written = refl }
-
-archive_none : archive_of [] ≡ []
-unfolding archive_of
-archive_none = rw contents_none refl
 
 -- Nothing more is packed.
 pub placed_done :

@@ -131,10 +131,6 @@ packed_few (suc most) ended· bytes =
     (λ _. omega (arith, packed_few most ended· (drop (first_length bytes) bytes)))
 
 -- ── how many bytes the blocks have ──
-two_bytes_length : (n : ℕ) → length (two_bytes n) ≡ 2
-unfolding two_bytes
-two_bytes_length n = refl
-
 pub block_length : (lines : List ℕ) → length lines ≤ 508 → length (block_of lines) ≡ 512
 unfolding block_of two_bytes
 block_length lines fits =

@@ -16,7 +16,7 @@ use Rattle.archive.specs.Packing.{storable, archive_of}
 use Rattle.archive.specs.Stream.{last_end, first_length, settled, packed_length, packed_of, unpacked_of, Run, stops, reads, packs, finishes, RunWritesArchive, WholePacked, PackedUpToBadLine, PackedIsStorable}
 use Rattle.archive.proofs.Lines.{ended_some}
 use Rattle.archive.proofs.Counting.{first_most}
-use Rattle.archive.proofs.Packing.{contents_none}
+use Rattle.archive.proofs.Packing.{archive_none}
 use Rattle.archive.proofs.Settled.{packed_cases, packed_none, packed_more, packed_storable, part_contents}
 use Rattle.archive.proofs.Storing.{all_packed}
 use Rattle.archive.proofs.Claims.{blocks_few}
@@ -49,10 +49,6 @@ archive_more :
     → archive_of (take (first_length l + m) l) ≡ block_of (take (first_length l) l) ++ archive_of (take m (drop (first_length l) l))
 unfolding archive_of
 archive_more l m some s = ap (flat_map block_of) (part_contents l m some s)
-
-archive_none : archive_of [] ≡ []
-unfolding archive_of
-archive_none = rw contents_none refl
 
 -- ── a step of a run ──
 -- That an archive is what is packed of the bytes at hand, so many of them, and what is packed of the others and of the input.

@@ -8,9 +8,10 @@ ghost use Rattle.archive.specs.Block.{number_at, block_of, whole_lines, sound, r
 use crate::LINE_END;
 use basis::Refusal;
 
+// How many bytes a block has.
 pub const BLOCK: usize = 512;
 
-// The lines begin behind the number of bytes used and the sum, of two bytes each.
+// Where the number of bytes used, the sum of the others and the lines begin.
 const COUNT: usize = 0;
 
 const SUM: usize = 2;

@@ -15,9 +15,6 @@ use memchr::memrchr;
 
 const LINE_END: u8 = b'\n';
 
-// Most lines of a schedule have no more bytes with their end.
-const SHORT_LINE: usize = 96;
-
 // What the functions of the C interface return: `wallcheck_archived` in the header.
 #[repr(C)]
 #[derive(Clone, Copy, Debug, PartialEq, Eq)]
@@ -62,7 +59,7 @@ pub fn count_blocks(text: &[u8]) -> Result<usize, Refusal>
     Ok(count)
 }
 
-// Writes these blocks, one behind the other from the first byte of `out` on.
+// Writes these blocks, one behind the other from the first byte of `out` on, and returns their number. Nothing where they do not fit.
 pub fn write_blocks(text: &[u8], out: &mut [u8]) -> Result<usize, Refusal>
     ensures { record { answer = numbered result; buffer = out.new } ≡ stored text.now out.old }
 {
@@ -85,8 +82,8 @@ pub struct Packed {
     pub blocks: usize,
 }
 
-// Writes the first blocks of a text, as many as `out` has room for. With `ended` nothing comes behind `text`. Else only those blocks are written whose lines
-// are known whatever comes.
+// Writes the first blocks of a text, as many as `out` has room for, up to a line that no block can hold. With `ended` nothing comes behind `text`. Else only
+// those blocks are written whose lines are known whatever comes.
 pub fn pack(text: &[u8], ended: bool, out: &mut [u8]) -> Packed
     ensures { record { packed = result; buffer = out.new } ≡ packed_into ended text.now out.old }
 {
@@ -130,7 +127,7 @@ fn first_length(text: &[u8]) -> usize
     last_end(&text[..text.len().min(CAPACITY)])
 }
 
-// How many bytes stand up to and including the last byte 10.
+// How many bytes stand up to and including the last byte 10. One copy for both callers, which is quicker than one in each.
 #[inline(never)]
 fn last_end(bytes: &[u8]) -> usize
     ensures { result ≡ last_end bytes.now }
