@@ -111,13 +111,13 @@ pub fn pack(text: &[u8], ended: bool, out: &mut [u8]) -> Packed
 pub fn count_line_ends(text: &[u8]) -> usize
     ensures { result ≡ line_ends text.now }
 {
-    let mut count = 0;
+    let mut ends = 0;
     for &byte in text {
         if byte == LINE_END {
-            count += 1;
+            ends += 1;
         }
     }
-    count
+    ends
 }
 
 // How many bytes the first block of a text takes: of the first 508 those that are whole lines.

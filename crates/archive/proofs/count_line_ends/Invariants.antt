@@ -4,4 +4,4 @@ use Rattle.archive.specs.Stream.{line_ends}
 use Rattle.archive.proofs.count_line_ends.Given as goal
 
 abbrev pub invariant-loop-byte : goal.invariant-loop-byte
-invariant-loop-byte l = l.count ≡ line_ends (take l.byte-index l.fn.text)
+invariant-loop-byte l = l.ends ≡ line_ends (take l.byte-index l.fn.text)
