@@ -98,7 +98,8 @@ fn sum_of(bytes: &[u8]) -> u16
 {
     let mut sum: u16 = 0;
     for &byte in bytes {
-        sum = sum.wrapping_add(u16::from(byte));
+        let addend = u16::from(byte);
+        sum = sum.wrapping_add(addend);
     }
     sum
 }
