@@ -29,3 +29,11 @@ archived (Err refusal) = record { refusal = refusal; count = 0 }
 abbrev pub yielded_count : Result (List ℕ) ℕ → Result ℕ ℕ
 yielded_count (Ok lines) = Ok (length lines)
 yielded_count (Err refusal) = Err refusal
+
+-- In C: what the writer hands back, and what its buffer holds then.
+pub record WrittenInto : Type 0 where
+  pub result : Archived
+  pub buffer : List ℕ
+
+abbrev pub written_into : List ℕ → List ℕ → WrittenInto
+written_into text buffer = record { result = archived (stored text buffer).answer; buffer = (stored text buffer).buffer }

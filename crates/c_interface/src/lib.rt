@@ -4,7 +4,7 @@
 ghost use Rattle.std.specs.Prelude.{◌≡◌};
 ghost use Rattle.wallcheck.specs.Entry.{line_result, counted_result, cells_result, lent, edition};
 ghost use Rattle.archive.specs.Block.{read_block};
-ghost use Rattle.archive.specs.Entry.{block_count, stored, yielded_count, archived};
+ghost use Rattle.archive.specs.Entry.{block_count, written_into, yielded_count, archived};
 ghost use Rattle.wallcheck.specs.MinimumLoad.{minimum_load_line, minimum_load_cells};
 
 use archive::Archived;
@@ -107,8 +107,7 @@ pub extern "C" fn wallcheck_archive_count(text: &[u8]) -> Archived
 
 #[unsafe(no_mangle)]
 pub extern "C" fn wallcheck_archive_write(text: &[u8], out: &mut [u8]) -> Archived
-    ensures answer { result ≡ archived (stored text.now out.old).answer }
-    ensures buffer { out.new ≡ (stored text.now out.old).buffer }
+    ensures { record { result = result; buffer = out.new } ≡ written_into text.now out.old }
 {
     Archived::from(archive::write_blocks(text, out))
 }
