@@ -10,7 +10,7 @@ use Rattle.std.specs.Prelude.{replicate, sum, Ok}
 use Rattle.std.proofs.lemmas.List.Sums.{sum_by-cons, sum_by-set}
 use Rattle.archive.specs.Block.{two_bytes, number_at, block_of, used, sum_of_others, used_part, remainder, whole_lines, read_block}
 use Rattle.archive.specs.Claims.{Bytes, LessTightlyRead, ReadExactly, ChangedByteRefused}
-use Rattle.archive.proofs.BlockParts.{Sound, sum_zeros, read_yields, read_only_sound, unsound_refused}
+use Rattle.archive.proofs.BlockParts.{Valid, sum_zeros, read_yields, read_only_valid, invalid_refused}
 
 -- ── the parts of the block of some lines ──
 module _ (lines : List ℕ) (fits : length lines ≤ 508) where
@@ -36,9 +36,9 @@ module _ (lines : List ℕ) (fits : length lines ≤ 508) where
   unfolding remainder
   remainder_is = rw (used_is, ← drop-drop (length lines) 4 (block_of lines), in_four) (drop-append_seam lines zeros)
 
-  block_sound : whole_lines lines ≡ true → Sound (block_of lines)
+  block_valid : whole_lines lines ≡ true → Valid (block_of lines)
   unfolding sum_of_others number_at two_bytes
-  block_sound whole =
+  block_valid whole =
       let front = sum_by-cons (λ n. n) (length lines % 256) (length lines / 256 ∷ []) in
       let others : total ≡ (sum (length lines % 256 ∷ length lines / 256 ∷ []) + sum (lines ++ zeros)) % 65536 = refl in
       record {
@@ -51,7 +51,7 @@ module _ (lines : List ℕ) (fits : length lines ≤ 508) where
 
 pub less_tightly_read : LessTightlyRead
 less_tightly_read lines fits whole =
-    let s = block_sound lines fits whole in
+    let s = block_valid lines fits whole in
     sym (read_yields (block_of lines) s) ∙ ap Ok (used_part_is lines fits)
 
 -- ── a block that yields ──
@@ -71,8 +71,8 @@ zero_bytes (byte ∷ l) none =
     let first : byte ≡ 0 = omega (arith, parts, none) in
     rw first (ap (λ m. 0 ∷ m) (zero_bytes l (omega (arith, parts, none))))
 
--- The sum of a sound block's other bytes, in its parts.
-total_is : (b₀ b₁ b₂ b₃ : ℕ) (rest : List ℕ) → Sound (b₀ ∷ b₁ ∷ b₂ ∷ b₃ ∷ rest) → b₂ + 256 * b₃ ≡ (b₀ + b₁ + sum rest) % 65536
+-- The sum of a valid block's other bytes, in its parts.
+total_is : (b₀ b₁ b₂ b₃ : ℕ) (rest : List ℕ) → Valid (b₀ ∷ b₁ ∷ b₂ ∷ b₃ ∷ rest) → b₂ + 256 * b₃ ≡ (b₀ + b₁ + sum rest) % 65536
 unfolding number_at sum_of_others
 total_is b₀ b₁ b₂ b₃ rest s = s.total ∙ ap (λ n. (n + sum rest) % 65536) (omega arith)
 
@@ -97,7 +97,7 @@ exactly_in_parts :
 unfolding two_bytes
 exactly_in_parts b₀ b₁ b₂ b₃ rest size bytes lines is =
     let block : List ℕ = b₀ ∷ b₁ ∷ b₂ ∷ b₃ ∷ rest in
-    let only = read_only_sound block is in
+    let only = read_only_valid block is in
     let s = only.0 in
     let u = b₀ + 256 * b₁ in
     let few : u ≤ 508 = rw (used_in_parts b₀ b₁ (b₂ ∷ b₃ ∷ rest)) at s.count in
@@ -126,20 +126,20 @@ pub read_exactly : ReadExactly
 read_exactly block lines bytes is =
     in_parts
     (λ block. Bytes block → read_block block ≡ Ok lines → (block ≡ block_of lines) × ((length lines ≤ 508) × (whole_lines lines ≡ true)))
-    (λ b₀ b₁ b₂ b₃ rest size bytes is. exactly_in_parts b₀ b₁ b₂ b₃ rest size bytes lines is) block (read_only_sound block is).0.size bytes is
+    (λ b₀ b₁ b₂ b₃ rest size bytes is. exactly_in_parts b₀ b₁ b₂ b₃ rest size bytes lines is) block (read_only_valid block is).0.size bytes is
 
 -- ── a changed byte ──
-module _ (b₀ b₁ b₂ b₃ : ℕ) (rest : List ℕ) (size : length rest ≡ 508) (bytes : Bytes (b₀ ∷ b₁ ∷ b₂ ∷ b₃ ∷ rest)) (s : Sound (b₀ ∷ b₁ ∷ b₂ ∷ b₃ ∷ rest)) where
-  changed_unsound :
+module _ (b₀ b₁ b₂ b₃ : ℕ) (rest : List ℕ) (size : length rest ≡ 508) (bytes : Bytes (b₀ ∷ b₁ ∷ b₂ ∷ b₃ ∷ rest)) (s : Valid (b₀ ∷ b₁ ∷ b₂ ∷ b₃ ∷ rest)) where
+  changed_invalid :
       (place byte : ℕ) → place < 512 → byte < 256 → (byte ≡ get_or (b₀ ∷ b₁ ∷ b₂ ∷ b₃ ∷ rest) place 0 → ⊥)
-      → Sound (set (b₀ ∷ b₁ ∷ b₂ ∷ b₃ ∷ rest) place byte) → ⊥
-  changed_unsound zero byte within below other t =
+      → Valid (set (b₀ ∷ b₁ ∷ b₂ ∷ b₃ ∷ rest) place byte) → ⊥
+  changed_invalid zero byte within below other t =
       other (omega (arith, total_is b₀ b₁ b₂ b₃ rest s, total_is byte b₁ b₂ b₃ rest t, bytes 0 0 (omega (arith, size))))
-  changed_unsound (suc zero) byte within below other t =
+  changed_invalid (suc zero) byte within below other t =
       other (omega (arith, total_is b₀ b₁ b₂ b₃ rest s, total_is b₀ byte b₂ b₃ rest t, bytes 1 0 (omega (arith, size))))
-  changed_unsound (suc (suc zero)) byte within below other t = other (omega (arith, total_is b₀ b₁ b₂ b₃ rest s, total_is b₀ b₁ byte b₃ rest t))
-  changed_unsound (suc (suc (suc zero))) byte within below other t = other (omega (arith, total_is b₀ b₁ b₂ b₃ rest s, total_is b₀ b₁ b₂ byte rest t))
-  changed_unsound (suc (suc (suc (suc i)))) byte within below other t =
+  changed_invalid (suc (suc zero)) byte within below other t = other (omega (arith, total_is b₀ b₁ b₂ b₃ rest s, total_is b₀ b₁ byte b₃ rest t))
+  changed_invalid (suc (suc (suc zero))) byte within below other t = other (omega (arith, total_is b₀ b₁ b₂ b₃ rest s, total_is b₀ b₁ b₂ byte rest t))
+  changed_invalid (suc (suc (suc (suc i)))) byte within below other t =
       other
       (omega (
         arith,
@@ -151,8 +151,8 @@ module _ (b₀ b₁ b₂ b₃ : ℕ) (rest : List ℕ) (size : length rest ≡ 5
 
 pub changed_byte_refused : ChangedByteRefused
 changed_byte_refused block lines bytes is place byte within below other =
-    let s = (read_only_sound block is).0 in
-    unsound_refused (set block place byte)
+    let s = (read_only_valid block is).0 in
+    invalid_refused (set block place byte)
     (in_parts
-    (λ block. Bytes block → Sound block → (byte ≡ get_or block place 0 → ⊥) → Sound (set block place byte) → ⊥)
-    (λ b₀ b₁ b₂ b₃ rest size bytes s other. changed_unsound b₀ b₁ b₂ b₃ rest size bytes s place byte within below other) block s.size bytes s other)
+    (λ block. Bytes block → Valid block → (byte ≡ get_or block place 0 → ⊥) → Valid (set block place byte) → ⊥)
+    (λ b₀ b₁ b₂ b₃ rest size bytes s other. changed_invalid b₀ b₁ b₂ b₃ rest size bytes s place byte within below other) block s.size bytes s other)

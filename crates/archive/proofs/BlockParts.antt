@@ -22,7 +22,7 @@ use Rattle.std.proofs.lemmas.Option.{slice_get_within, get_or_from_slice_get}
 use Rattle.std.proofs.lemmas.List.Sums.{sum_by-cons}
 use Rattle.std.proofs.lemmas.List.Folds.{sum_by-replicate}
 use Rattle.basis.proofs.Choice.{and_left, and_right, cond_cases}
-use Rattle.archive.specs.Block.{two_bytes, block_of, number_at, used, sum_of_others, used_part, remainder, whole_lines, sound, read_block}
+use Rattle.archive.specs.Block.{two_bytes, block_of, number_at, used, sum_of_others, used_part, remainder, whole_lines, valid, read_block}
 
 -- ── whole lines ──
 pub whole_none : (bytes : List ℕ) → length bytes ≤ 0 → true ≡ whole_lines bytes
@@ -98,17 +98,17 @@ block_written lines rest {front} {inner} {whole} {count} {total} {head} {copied}
     rw (h, total_is, rest_is, count_is) refl
 
 -- ── what a block yields ──
--- That a block is sound, in five facts.
-pub record Sound (block : List ℕ) : Type 0 where
+-- That a block is valid, in five facts.
+pub record Valid (block : List ℕ) : Type 0 where
   pub size : length block ≡ 512
   pub count : used block ≤ 508
   pub total : number_at 2 block ≡ sum_of_others block
   pub rest : sum (remainder block) ≡ 0
   pub lines : whole_lines (used_part block) ≡ true
 
-pub sound_parts : (block : List ℕ) → sound block ≡ true → Sound block
-unfolding sound
-sound_parts block all =
+pub valid_parts : (block : List ℕ) → valid block ≡ true → Valid block
+unfolding valid
+valid_parts block all =
     let size = eqb (length block) 512 in
     let count = leb (used block) 508 in
     let total = eqb (number_at 2 block) (sum_of_others block) in
@@ -126,22 +126,22 @@ sound_parts block all =
     }
 
 module _ (block : List ℕ) where
-  pub sound_size : (length block ≡ 512 → ⊥) → false ≡ sound block
-  unfolding sound
-  sound_size other = rw (ne_eqb (length block) 512 other) refl
+  pub valid_size : (length block ≡ 512 → ⊥) → false ≡ valid block
+  unfolding valid
+  valid_size other = rw (ne_eqb (length block) 512 other) refl
 
-  pub sound_count : 508 < used block → false ≡ sound block
-  unfolding sound
-  sound_count above = rw (lt-leb (used block) 508 above) (sym (and-false (eqb (length block) 512)))
+  pub valid_count : 508 < used block → false ≡ valid block
+  unfolding valid
+  valid_count above = rw (lt-leb (used block) 508 above) (sym (and-false (eqb (length block) 512)))
 
   -- Of a block of the right length and count, the tests of sum, remainder and lines, however its parts and their sums were found.
-  pub sound_tests :
+  pub valid_tests :
       {count total front inner others : ℕ} {rest lines behind : List ℕ} {zeros whole : Bool} → length block ≡ 512 → count ≤ 508 → count ≡ used block
       → rest ≡ drop 4 block → lines ≡ take count rest → behind ≡ drop count rest → total ≡ number_at 2 block → front ≡ sum (take 2 block) % 65536
       → inner ≡ sum rest % 65536 → others ≡ (front + inner) % 65536 → zeros ≡ list_all (λ byte. eqb byte 0) behind → whole ≡ whole_lines lines
-      → (eqb total others && zeros && whole) ≡ sound block
-  unfolding sound used_part remainder sum_of_others
-  sound_tests {count} {total} {front} {inner} {others} {rest} {lines} {behind} {zeros} {whole} size few is r l b t f i o z w =
+      → (eqb total others && zeros && whole) ≡ valid block
+  unfolding valid used_part remainder sum_of_others
+  valid_tests {count} {total} {front} {inner} {others} {rest} {lines} {behind} {zeros} {whole} size few is r l b t f i o z w =
       let in_range = le-leb (used block) 508 (rw is at few) in
       let lines_is : lines ≡ used_part block = rw (r, is) at l in
       let behind_is : behind ≡ remainder block = b ∙ rw (r, is) (drop-drop (used block) 4 block) in
@@ -150,9 +150,9 @@ module _ (block : List ℕ) where
       let whole_is : whole ≡ whole_lines (used_part block) = w ∙ ap whole_lines lines_is in
       rw (eq-eqb (length block) 512 size, in_range, ← t, ← others_are, ← zeros_are, ← whole_is) (and_assoc (eqb total others) zeros whole)
 
-pub sound_from : (block : List ℕ) → Sound block → true ≡ sound block
-unfolding sound
-sound_from block s =
+pub valid_from : (block : List ℕ) → Valid block → true ≡ valid block
+unfolding valid
+valid_from block s =
     rw (
       eq-eqb (length block) 512 s.size,
       le-leb (used block) 508 s.count,
@@ -166,33 +166,33 @@ pub used_lem : (block : List ℕ) → used block ≡ number_at 0 block
 unfolding used
 used_lem block = refl
 
-pub read_refused : (block : List ℕ) → false ≡ sound block → ◌≡◌ {A = Result (List ℕ) ℕ} (Err 23) (read_block block)
+pub read_refused : (block : List ℕ) → false ≡ valid block → ◌≡◌ {A = Result (List ℕ) ℕ} (Err 23) (read_block block)
 unfolding read_block
 read_refused block s = rw (← s) refl
 
-pub read_sound :
-    (block : List ℕ) {count : ℕ} {rest lines : List ℕ} → true ≡ sound block → count ≡ used block → rest ≡ drop 4 block → lines ≡ take count rest
+pub read_valid :
+    (block : List ℕ) {count : ℕ} {rest lines : List ℕ} → true ≡ valid block → count ≡ used block → rest ≡ drop 4 block → lines ≡ take count rest
     → Ok lines ≡ read_block block
 unfolding read_block used_part
-read_sound block s is r l = rw (← s, ← is, ← r, ← l) refl
+read_valid block s is r l = rw (← s, ← is, ← r, ← l) refl
 
-pub sound_fits : (block : List ℕ) → true ≡ sound block → Sound block
-sound_fits block s = sound_parts block (sym s)
+pub valid_fits : (block : List ℕ) → true ≡ valid block → Valid block
+valid_fits block s = valid_parts block (sym s)
 
-pub read_yields : (block : List ℕ) → Sound block → Ok (used_part block) ≡ read_block block
+pub read_yields : (block : List ℕ) → Valid block → Ok (used_part block) ≡ read_block block
 unfolding read_block
-read_yields block s = rw (← sound_from block s) refl
+read_yields block s = rw (← valid_from block s) refl
 
--- Only a sound block yields, and it yields its used part.
-pub read_only_sound : (block : List ℕ) {lines : List ℕ} → read_block block ≡ Ok lines → Sound block × (lines ≡ used_part block)
+-- Only a valid block yields, and it yields its used part.
+pub read_only_valid : (block : List ℕ) {lines : List ℕ} → read_block block ≡ Ok lines → Valid block × (lines ≡ used_part block)
 unfolding read_block
-read_only_sound block {lines} is = step (sound block) refl is
+read_only_valid block {lines} is = step (valid block) refl is
   where
-    step : (b : Bool) → sound block ≡ b → cond {A = Result (List ℕ) ℕ} b (Ok (used_part block)) (Err 23) ≡ Ok lines → Sound block × (lines ≡ used_part block)
-    step true e is = (sound_parts block e, cc)
+    step : (b : Bool) → valid block ≡ b → cond {A = Result (List ℕ) ℕ} b (Ok (used_part block)) (Err 23) ≡ Ok lines → Valid block × (lines ≡ used_part block)
+    step true e is = (valid_parts block e, cc)
     step false e is = absurd cc
 
-pub unsound_refused : (block : List ℕ) → (Sound block → ⊥) → read_block block ≡ Err 23
+pub invalid_refused : (block : List ℕ) → (Valid block → ⊥) → read_block block ≡ Err 23
 unfolding read_block
-unsound_refused block unsound =
-    cond_cases (λ r. r ≡ Err 23) (sound block) (λ all. absurd (unsound (sound_parts block all))) (λ _. refl)
+invalid_refused block invalid =
+    cond_cases (λ r. r ≡ Err 23) (valid block) (λ all. absurd (invalid (valid_parts block all))) (λ _. refl)

@@ -11,13 +11,13 @@ use lib.ListN.{length, take, drop, get_or, length-drop, take-append-drop}
 use lib.Seq.{take-append-add, take-add, take-take, take-nil, length-take-le}
 use Rattle.std.proofs.lemmas.List.Elements.{All-nil, All-cons}
 use Rattle.std.specs.Prelude.{All, flat_map}
-use Rattle.std.specs.List.{concat}
+use Rattle.std.specs.List.{concat, count_by}
 use Rattle.text.specs.LineEnd.{ended, line_length, lines_of}
 use Rattle.text.proofs.LineEnd.{ended_cases, line_cases, ended_line, line_length_line, lines_of_line, Whole, whole_none as Whole-none, whole_line as Whole-line}
 use Rattle.archive.specs.Block.{whole_lines}
 use Rattle.archive.specs.Packing.{storable, contents}
-use Rattle.archive.specs.Stream.{last_end, first_length, line_ends}
-use Rattle.archive.specs.Claims.{HoldsLines, NoLineSplit, SameBytes, SameLines, OpensWhereFull, LinesCounted}
+use Rattle.archive.specs.Stream.{last_end, first_length}
+use Rattle.archive.specs.Claims.{HoldsLines, NoLineSplit, SameBytes, SameLines, OpensWhereFull}
 use Rattle.archive.proofs.Lines.{by_lines, ended_some, or_none_left, or_none_right, within_line, beyond_line, last_end_append, last_end_unended, last_end_line}
 use Rattle.archive.proofs.Counting.{first_most}
 use Rattle.archive.proofs.Packing.{whole_line, whole_unended, storable_unended, first_leaves, first_none, first_contents, contents_none}
@@ -188,6 +188,10 @@ pub opens_where_full : OpensWhereFull
 opens_where_full = by_blocks (λ t blocks. Full blocks) (λ k more. absurd (let no· : ⊥ = omega (arith, more) in no·)) (λ t s some known. full_first t s known)
 
 -- ── the lines counted ──
+-- The bytes 10 of whole lines are as many as the lines.
+abbrev pub line_ends : List ℕ → ℕ
+line_ends = count_by (λ byte. eqb byte 10)
+
 abbrev one_end : ℕ → ℕ
 one_end byte = cond (eqb byte 10) 1 0
 
@@ -207,7 +211,7 @@ lines_counted_line line rest e known whole =
     let others = known (rw (whole_line line rest) at whole) in
     omega (arith, parts, behind, no_ends line e, others, ap length (lines_of_line line rest e))
 
-pub lines_counted : LinesCounted
+pub lines_counted : (l : List ℕ) → whole_lines l ≡ true → line_ends l ≡ length (lines_of l)
 unfolding lines_of
 lines_counted =
     by_lines (λ l. whole_lines l ≡ true → line_ends l ≡ length (lines_of l)) (λ whole. refl)

@@ -10,5 +10,6 @@ pub mod Claims
 pub mod BlockParts
 pub mod BlockClaims
 pub mod WrittenClaims
+pub mod Held
 pub mod Stream
 pub mod Figures

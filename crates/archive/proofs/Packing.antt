@@ -162,7 +162,7 @@ packs_on_line line rest e known whole current room all =
 packs_on : (t : List ℕ) → PacksOn t
 packs_on = by_lines PacksOn packs_on_none packs_on_unended packs_on_line
 
-storable_whole : (t : List ℕ) → storable t ≡ true → whole_lines t ≡ true
+pub storable_whole : (t : List ℕ) → storable t ≡ true → whole_lines t ≡ true
 unfolding storable
 storable_whole t s = and_left (whole_lines t) (list_all (λ l. leb (length l) 508) (ended_lines t)) s
 

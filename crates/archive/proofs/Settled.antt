@@ -50,22 +50,22 @@ first_prefix l k h =
     ]
 
 -- ── what is packed ──
-pub packed_none : (most : ℕ) (ended· : Bool) (bytes : List ℕ) → first_length bytes ≡ 0 → packed_length most ended· bytes ≡ 0
+pub packed_none : (most : ℕ) (complete : Bool) (bytes : List ℕ) → first_length bytes ≡ 0 → packed_length most complete bytes ≡ 0
 unfolding packed_length
-packed_none zero ended· bytes none = refl
-packed_none (suc most) ended· bytes none =
-    cond_cases (λ n. n ≡ 0) (settled ended· bytes) (λ _. rw none (zero-add (packed_length most ended· bytes) ∙ packed_none most ended· bytes none)) (λ _. refl)
+packed_none zero complete bytes none = refl
+packed_none (suc most) complete bytes none =
+    cond_cases (λ n. n ≡ 0) (settled complete bytes) (λ _. rw none (zero-add (packed_length most complete bytes) ∙ packed_none most complete bytes none)) (λ _. refl)
 
-pub packed_unsettled : (most : ℕ) (ended· : Bool) (bytes : List ℕ) → settled ended· bytes ≡ false → packed_length most ended· bytes ≡ 0
+pub packed_unsettled : (most : ℕ) (complete : Bool) (bytes : List ℕ) → settled complete bytes ≡ false → packed_length most complete bytes ≡ 0
 unfolding packed_length
-packed_unsettled zero ended· bytes open· = refl
-packed_unsettled (suc most) ended· bytes open· = rw open· refl
+packed_unsettled zero complete bytes open· = refl
+packed_unsettled (suc most) complete bytes open· = rw open· refl
 
 pub packed_more :
-    (most : ℕ) (ended· : Bool) (bytes : List ℕ) → settled ended· bytes ≡ true
-    → packed_length (suc most) ended· bytes ≡ first_length bytes + packed_length most ended· (drop (first_length bytes) bytes)
+    (most : ℕ) (complete : Bool) (bytes : List ℕ) → settled complete bytes ≡ true
+    → packed_length (suc most) complete bytes ≡ first_length bytes + packed_length most complete (drop (first_length bytes) bytes)
 unfolding packed_length
-packed_more most ended· bytes known = rw known refl
+packed_more most complete bytes known = rw known refl
 
 -- A part of a text, from its beginning: the lines of the first block and more.
 part_first : (l : List ℕ) (m : ℕ) → first_length (take (first_length l + m) l) ≡ first_length l
@@ -93,42 +93,42 @@ part_contents l m some s =
 
 -- Nothing is packed; or the first block, and what is packed behind it.
 pub packed_cases :
-    (most : ℕ) (ended· : Bool) (bytes : List ℕ) (P : ℕ → Type 0) → P 0
-    → (settled ended· bytes ≡ true → (first_length bytes ≡ 0 → ⊥) → P (first_length bytes + packed_length most ended· (drop (first_length bytes) bytes)))
-    → P (packed_length (suc most) ended· bytes)
+    (most : ℕ) (complete : Bool) (bytes : List ℕ) (P : ℕ → Type 0) → P 0
+    → (settled complete bytes ≡ true → (first_length bytes ≡ 0 → ⊥) → P (first_length bytes + packed_length most complete (drop (first_length bytes) bytes)))
+    → P (packed_length (suc most) complete bytes)
 unfolding packed_length
-packed_cases most ended· bytes P none more =
+packed_cases most complete bytes P none more =
     elim (ℕ_discrete (first_length bytes) 0) [
-      | yes is ↦ rw (packed_none (suc most) ended· bytes is) none
-      | no some ↦ cond_cases P (settled ended· bytes) (λ known. more known some) (λ _. none)
+      | yes is ↦ rw (packed_none (suc most) complete bytes is) none
+      | no some ↦ cond_cases P (settled complete bytes) (λ known. more known some) (λ _. none)
     ]
 
 -- What is packed can be stored, whatever comes behind it.
-pub packed_storable : (most : ℕ) (ended· : Bool) (bytes : List ℕ) → storable (packed_of most ended· bytes) ≡ true
+pub packed_storable : (most : ℕ) (complete : Bool) (bytes : List ℕ) → storable (packed_of most complete bytes) ≡ true
 unfolding packed_length
-packed_storable zero ended· bytes = storable_none
-packed_storable (suc most) ended· bytes =
-    let behind = packed_storable most ended· (drop (first_length bytes) bytes) in
-    packed_cases most ended· bytes (λ n. storable (take n bytes) ≡ true) storable_none
-    (λ known some. part_storable bytes (packed_length most ended· (drop (first_length bytes) bytes)) behind)
+packed_storable zero complete bytes = storable_none
+packed_storable (suc most) complete bytes =
+    let behind = packed_storable most complete (drop (first_length bytes) bytes) in
+    packed_cases most complete bytes (λ n. storable (take n bytes) ≡ true) storable_none
+    (λ known some. part_storable bytes (packed_length most complete (drop (first_length bytes) bytes)) behind)
 
 -- The blocks of what is packed: none; or the first block, and those behind it.
 pub packed_blocks :
-    (most : ℕ) (ended· : Bool) (bytes : List ℕ) (P : List (List ℕ) → Type 0) → P []
-    → ((first_length bytes ≡ 0 → ⊥) → P (take (first_length bytes) bytes ∷ contents (packed_of most ended· (drop (first_length bytes) bytes))))
-    → P (contents (packed_of (suc most) ended· bytes))
-packed_blocks most ended· bytes P none more =
-    packed_cases most ended· bytes (λ n. P (contents (take n bytes))) (rw contents_none none)
+    (most : ℕ) (complete : Bool) (bytes : List ℕ) (P : List (List ℕ) → Type 0) → P []
+    → ((first_length bytes ≡ 0 → ⊥) → P (take (first_length bytes) bytes ∷ contents (packed_of most complete (drop (first_length bytes) bytes))))
+    → P (contents (packed_of (suc most) complete bytes))
+packed_blocks most complete bytes P none more =
+    packed_cases most complete bytes (λ n. P (contents (take n bytes))) (rw contents_none none)
     (λ known some.
     let behind = drop (first_length bytes) bytes in
-    rw (part_contents bytes (packed_length most ended· behind) some (packed_storable most ended· behind)) (more some))
+    rw (part_contents bytes (packed_length most complete behind) some (packed_storable most complete behind)) (more some))
 
-pub packed_few : (most : ℕ) (ended· : Bool) (bytes : List ℕ) → length (contents (packed_of most ended· bytes)) ≤ most
+pub packed_few : (most : ℕ) (complete : Bool) (bytes : List ℕ) → length (contents (packed_of most complete bytes)) ≤ most
 unfolding packed_length
-packed_few zero ended· bytes = rw contents_none (omega arith)
-packed_few (suc most) ended· bytes =
-    packed_blocks most ended· bytes (λ b. length b ≤ suc most) (omega arith)
-    (λ _. omega (arith, packed_few most ended· (drop (first_length bytes) bytes)))
+packed_few zero complete bytes = rw contents_none (omega arith)
+packed_few (suc most) complete bytes =
+    packed_blocks most complete bytes (λ b. length b ≤ suc most) (omega arith)
+    (λ _. omega (arith, packed_few most complete (drop (first_length bytes) bytes)))
 
 -- ── how many bytes the blocks have ──
 pub block_length : (lines : List ℕ) → length lines ≤ 508 → length (block_of lines) ≡ 512
@@ -144,18 +144,18 @@ pub first_short : (bytes : List ℕ) → length (take (first_length bytes) bytes
 first_short bytes = omega (arith, length-take (first_length bytes) bytes, first_capacity bytes)
 
 pub packed_length_of :
-    (most : ℕ) (ended· : Bool) (bytes : List ℕ)
-    → length (archive_of (packed_of most ended· bytes)) ≡ 512 * length (contents (packed_of most ended· bytes))
+    (most : ℕ) (complete : Bool) (bytes : List ℕ)
+    → length (archive_of (packed_of most complete bytes)) ≡ 512 * length (contents (packed_of most complete bytes))
 unfolding packed_length archive_of
-packed_length_of zero ended· bytes = rw contents_none refl
-packed_length_of (suc most) ended· bytes =
-    let behind = contents (packed_of most ended· (drop (first_length bytes) bytes)) in
+packed_length_of zero complete bytes = rw contents_none refl
+packed_length_of (suc most) complete bytes =
+    let behind = contents (packed_of most complete (drop (first_length bytes) bytes)) in
     let first = take (first_length bytes) bytes in
-    packed_blocks most ended· bytes (λ b. length (flat_map block_of b) ≡ 512 * length b) refl
+    packed_blocks most complete bytes (λ b. length (flat_map block_of b) ≡ 512 * length b) refl
     (λ _.
     omega (
       arith,
       length-append (block_of first) (flat_map block_of behind),
       block_length first (first_short bytes),
-      packed_length_of most ended· (drop (first_length bytes) bytes),
+      packed_length_of most complete (drop (first_length bytes) bytes),
     ))

@@ -11,7 +11,7 @@ use lib.Seq.{take-length}
 use borrow.Author.Tests.{le-leb, lt-leb}
 use Rattle.std.specs.Prelude.{Result, Ok, Err}
 use Rattle.buffer.specs.Overwrite.{overwrite}
-use Rattle.archive.specs.declared.Packed.{Packed}
+use Rattle.archive.specs.declared.Progress.{Progress}
 use Rattle.archive.specs.Entry.{Stored, stored, block_count}
 use Rattle.archive.specs.Packing.{storable, contents, archive_of}
 use Rattle.archive.specs.Stream.{first_length, packed_length, packed_of, packed_into}
@@ -46,10 +46,10 @@ count_parts text {count} is = step (storable text) is
 
 module _ (text before : List ℕ) where
   pub stored_good :
-      {count : ℕ} {packed : Packed} {out : List ℕ} → Ok count ≡ block_count text → count ≤ length before / 512
-      → record { packed = packed; buffer = out } ≡ packed_into true text before → record { answer = Ok count; buffer = out } ≡ stored text before
+      {count : ℕ} {progress : Progress} {out : List ℕ} → Ok count ≡ block_count text → count ≤ length before / 512
+      → record { progress = progress; buffer = out } ≡ packed_into true text before → record { answer = Ok count; buffer = out } ≡ stored text before
   unfolding stored packed_into
-  stored_good {count} {packed} {out} is fits put =
+  stored_good {count} {progress} {out} is fits put =
       let parts = count_parts text is in
       let all : packed_of (length before / 512) true text ≡ text =
       ap (λ n. take n text) (all_packed (length before / 512) text parts.0 (omega (arith, parts.1, fits))) ∙ take-length text in

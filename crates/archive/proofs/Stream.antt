@@ -7,13 +7,13 @@ use mathlib.Core.List.{List, [], ◌++◌, append_assoc, append-nil}
 use mathlib.Core.Path.{◌≡◌, refl, sym, ap, ◌∙◌}
 use lib.ListN.{length, take, drop, length-append, length-drop}
 use lib.Seq.{drop-drop, take-length}
-use borrow.Author.Tests.{leb-true}
+use borrow.Author.Tests.{leb-true, le-leb}
 use Rattle.std.specs.Prelude.{flat_map}
 use Rattle.std.proofs.lemmas.List.{take-append-le, drop-append-le}
 use Rattle.text.specs.LineEnd.{ended}
 use Rattle.archive.specs.Block.{block_of}
 use Rattle.archive.specs.Packing.{storable, archive_of}
-use Rattle.archive.specs.Stream.{last_end, first_length, settled, packed_length, packed_of, unpacked_of, Run, stops, reads, packs, finishes, RunWritesArchive, WholePacked, PackedUpToBadLine, PackedIsStorable}
+use Rattle.archive.specs.Stream.{last_end, first_length, settled, packed_length, packed_of, unpacked_of, Run, stops, gives_up, reads, packs, finishes, RunWritesArchive, WholePacked, PackedUpToBadLine, NothingTaken, PackedIsStorable}
 use Rattle.archive.proofs.Lines.{ended_some}
 use Rattle.archive.proofs.Counting.{first_most}
 use Rattle.archive.proofs.Packing.{archive_none}
@@ -87,44 +87,50 @@ splits_first most m held input first some s few others =
 
 -- What the first block takes of bytes at hand, once it is settled, does not change by what comes behind them.
 abbrev Unchanged : Bool → List ℕ → Type 0
-Unchanged ended· input = (l : List ℕ) → settled ended· l ≡ true → first_length (l ++ input) ≡ first_length l
+Unchanged complete input = (l : List ℕ) → settled complete l ≡ true → first_length (l ++ input) ≡ first_length l
 
 splits :
-    (ended· : Bool) (input : List ℕ) → Unchanged ended· input → (blocks most : ℕ) (held : List ℕ) → length (held ++ input) ≤ most
-    → Splits most held input (packed_length blocks ended· held)
+    (complete : Bool) (input : List ℕ) → Unchanged complete input → (blocks most : ℕ) (held : List ℕ) → length (held ++ input) ≤ most
+    → Splits most held input (packed_length blocks complete held)
 unfolding packed_length
-splits ended· input same zero most held few = splits_none most held input
-splits ended· input same (suc blocks) zero held few =
+splits complete input same zero most held few = splits_none most held input
+splits complete input same (suc blocks) zero held few =
     let none : first_length held ≡ 0 = omega (arith, first_most held, length-append held input, few) in
-    rw (packed_none (suc blocks) ended· held none) (splits_none zero held input)
-splits ended· input same (suc blocks) (suc most) held few =
+    rw (packed_none (suc blocks) complete held none) (splits_none zero held input)
+splits complete input same (suc blocks) (suc most) held few =
     let n = first_length held in
-    let m = packed_length blocks ended· (drop n held) in
-    packed_cases blocks ended· held (Splits (suc most) held input) (splits_none (suc most) held input)
+    let m = packed_length blocks complete (drop n held) in
+    packed_cases blocks complete held (Splits (suc most) held input) (splits_none (suc most) held input)
     (λ known some.
     let fewer : length (drop n held ++ input) ≤ most =
     omega (arith, length-append (drop n held) input, length-drop n held, length-append held input, few, some, first_most held) in
-    splits_first most m held input (same held known) some (packed_storable blocks ended· (drop n held)) few
-    (splits ended· input same blocks most (drop n held) fewer))
+    splits_first most m held input (same held known) some (packed_storable blocks complete (drop n held)) few
+    (splits complete input same blocks most (drop n held) fewer))
 
 -- What is written and what can be packed of the rest make up the archive, before a step where they do behind it.
-module _ (ended· : Bool) (held input written rest : List ℕ) (same : Unchanged ended· input) (blocks : ℕ) where
+module _ (complete : Bool) (held input written rest : List ℕ) (same : Unchanged complete input) (blocks : ℕ) where
   step_writes :
       (written ++ archive_from (length rest) rest
-      ≡ archive_from (length (unpacked_of blocks ended· held ++ input)) (unpacked_of blocks ended· held ++ input))
-      → archive_of (packed_of blocks ended· held) ++ written ++ archive_from (length rest) rest ≡ archive_from (length (held ++ input)) (held ++ input)
+      ≡ archive_from (length (unpacked_of blocks complete held ++ input)) (unpacked_of blocks complete held ++ input))
+      → archive_of (packed_of blocks complete held) ++ written ++ archive_from (length rest) rest ≡ archive_from (length (held ++ input)) (held ++ input)
   step_writes others =
       let whole = length (held ++ input) in
-      let n = packed_length blocks ended· held in
+      let n = packed_length blocks complete held in
       let behind = drop n held ++ input in
       let fewer : length behind ≤ whole = omega (arith, length-append (drop n held) input, length-drop n held, length-append held input) in
       append_assoc (archive_of (take n held)) written (archive_from (length rest) rest) ∙ ap (λ a. archive_of (take n held) ++ a) others
       ∙ ap (λ a. archive_of (take n held) ++ a) (archive_enough (length behind) whole behind (omega arith) fewer)
-      ∙ sym (splits ended· input same blocks whole held (omega arith))
+      ∙ sym (splits complete input same blocks whole held (omega arith))
 
 run_writes : {held input written rest : List ℕ} → Run held input written rest
     → written ++ archive_from (length rest) rest ≡ archive_from (length (held ++ input)) (held ++ input)
 run_writes (stops {held}) = ap (λ t. archive_from (length t) t) (sym (append-nil held))
+run_writes (gives_up {held} {input} more none) =
+    let whole = held ++ input in
+    let known : settled false held ≡ true = le-leb 508 (length held) more in
+    let nothing : first_length whole ≡ 0 = first_settled held input known ∙ none in
+    let left = ap (λ n. archive_of (take n held)) (packed_none (length held) true held none) in
+    left ∙ sym (ap (λ n. archive_of (take n whole)) (packed_none (length whole) true whole nothing))
 run_writes (reads {held} {input} {written} {rest} piece run) = run_writes run ∙ ap (λ t. archive_from (length t) t) (append_assoc held piece input)
 run_writes (packs {held} {input} {written} {rest} blocks run) =
     step_writes false held input written rest (λ l known. first_settled l input known) blocks (run_writes run)
@@ -158,8 +164,12 @@ unended_front l none =
     ended_cases (ended (take 508 l) ≡ false) (take 508 l) (λ e. absurd (let no· : ⊥ = omega (arith, ended_some (take 508 l) e, none) in no·)) (λ e. e)
 
 pub packed_up_to_bad_line : PackedUpToBadLine
-packed_up_to_bad_line input =
-    (packed_storable (length input) true input, unended_front (unpacked_of (length input) true input) (nothing_left (length input) input (omega arith)))
+packed_up_to_bad_line input = unended_front (unpacked_of (length input) true input) (nothing_left (length input) input (omega arith))
+
+pub nothing_taken : NothingTaken
+nothing_taken zero complete bytes some none known = absurd (let no· : ⊥ = omega (arith, some) in no·)
+nothing_taken (suc most) complete bytes some none known =
+    unended_front bytes (omega (arith, packed_more most complete bytes known, none))
 
 pub packed_is_storable : PackedIsStorable
 packed_is_storable = packed_storable

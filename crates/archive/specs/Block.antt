@@ -36,8 +36,8 @@ unfoldable pub whole_lines : List ℕ → Bool
 whole_lines bytes = eqb (length bytes) 0 || eqb (get_or bytes (length bytes - 1) 0) 10
 
 -- Length, count, sum and remainder are right, and the used part is whole lines.
-unfoldable pub sound : List ℕ → Bool
-sound block =
+unfoldable pub valid : List ℕ → Bool
+valid block =
     eqb (length block) 512
     && (leb (used block) 508
     && (eqb (number_at 2 block) (sum_of_others block)
@@ -47,4 +47,4 @@ sound block =
 -- "The reader takes a block alone, also one filled less tightly, and yields exactly its used part. 23 when a block has a wrong length, count, sum or
 -- remainder, or its used part is nonempty and doesn't end in byte 10, and it then yields nothing".
 unfoldable pub read_block : List ℕ → Result (List ℕ) ℕ
-read_block block = cond (sound block) (Ok (used_part block)) (Err 23)
+read_block block = cond (valid block) (Ok (used_part block)) (Err 23)

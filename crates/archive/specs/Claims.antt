@@ -5,7 +5,6 @@ use Rattle.text.specs.LineEnd.{line_length, lines_of}
 use Rattle.archive.specs.Block.{block_of, read_block, whole_lines}
 use Rattle.archive.specs.Packing.{storable, contents}
 use Rattle.archive.specs.Entry.{block_count, stored}
-use Rattle.archive.specs.Stream.{line_ends}
 
 abbrev pub Bytes : List ℕ → Type 0
 Bytes = All (λ byte. byte < 256)
@@ -82,7 +81,3 @@ SameCount = (text buffer : List ℕ) → IsStored text buffer → (stored text b
 
 abbrev pub NothingWritten : Type 0
 NothingWritten = (text buffer : List ℕ) → (IsStored text buffer → ⊥) → ((stored text buffer).answer ≡ Err 24) × ((stored text buffer).buffer ≡ buffer)
-
--- What is counted of whole lines is their number.
-abbrev pub LinesCounted : Type 0
-LinesCounted = (text : List ℕ) → whole_lines text ≡ true → line_ends text ≡ length (lines_of text)

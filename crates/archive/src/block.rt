@@ -3,7 +3,7 @@ ghost use Rattle.std.specs.Prelude.{ℕ, ◌≡◌, ◌≤◌, ◌+◌, ◌%◌,
 ghost use Rattle.std.specs.List.{list_all};
 ghost use Rattle.std.specs.Result.{result_map_both};
 ghost use Rattle.basis.specs.Refusal.{number_of};
-ghost use Rattle.archive.specs.Block.{number_at, block_of, whole_lines, sound, read_block};
+ghost use Rattle.archive.specs.Block.{number_at, block_of, whole_lines, valid, read_block};
 
 use crate::LINE_END;
 use basis::Refusal;
@@ -39,7 +39,7 @@ pub(crate) fn write_block(lines: &[u8], block: &mut [u8])
 pub fn read_block(block: &[u8]) -> Result<&[u8], Refusal>
     ensures { result_map_both (λ lines. lines.now) number_of result ≡ read_block block.now }
 {
-    if !is_sound(block) {
+    if !is_valid(block) {
         return Err(Refusal::BlockDamaged);
     }
     let count = usize::from(number_at(block, COUNT));
@@ -49,8 +49,8 @@ pub fn read_block(block: &[u8]) -> Result<&[u8], Refusal>
 }
 
 // Whether length, count, sum and remainder are right, and the used part is whole lines.
-fn is_sound(block: &[u8]) -> bool
-    ensures { result ≡ sound block.now }
+fn is_valid(block: &[u8]) -> bool
+    ensures { result ≡ valid block.now }
 {
     if block.len() != BLOCK {
         return false;

@@ -2,10 +2,11 @@
 // Document 02, #107.
 #![tactic(auto)]
 
-ghost use Rattle.std.specs.Prelude.{◌≡◌};
+ghost use Rattle.std.specs.Prelude.{◌≡◌, eqb};
+ghost use Rattle.std.specs.List.{count_by};
 ghost use Rattle.basis.specs.Refusal.{numbered};
 ghost use Rattle.archive.specs.Entry.{block_count, stored, archived};
-ghost use Rattle.archive.specs.Stream.{last_end, first_length, line_ends, packed_into};
+ghost use Rattle.archive.specs.Stream.{last_end, first_length, packed_into, held_packed};
 
 mod block;
 
@@ -75,23 +76,23 @@ pub fn write_blocks(text: &[u8], out: &mut [u8]) -> Result<usize, Refusal>
 
 // How far `pack` has come.
 #[derive(Clone, Copy)]
-pub struct Packed {
+struct Progress {
     // How many bytes of the text are packed.
-    pub taken: usize,
+    taken: usize,
     // How many blocks these take.
-    pub blocks: usize,
+    blocks: usize,
 }
 
-// Writes the first blocks of a text, as many as `out` has room for, up to a line that no block can hold. With `ended` nothing comes behind `text`. Else only
-// those blocks are written whose lines are known whatever comes.
-pub fn pack(text: &[u8], ended: bool, out: &mut [u8]) -> Packed
-    ensures { record { packed = result; buffer = out.new } ≡ packed_into ended text.now out.old }
+// Writes the first blocks of a text, as many as `out` has room for, up to a line that no block can hold. With `complete` nothing comes behind `text`. Else
+// only those blocks are written whose lines are known whatever comes.
+fn pack(text: &[u8], complete: bool, out: &mut [u8]) -> Progress
+    ensures { record { progress = result; buffer = out.new } ≡ packed_into complete text.now out.old }
 {
     let mut taken = 0;
     let mut blocks = 0;
     while blocks < out.len() / BLOCK {
         let rest = &text[taken..];
-        let settled = ended | (rest.len() >= CAPACITY);
+        let settled = complete | (rest.len() >= CAPACITY);
         if !settled {
             break;
         }
@@ -104,12 +105,39 @@ pub fn pack(text: &[u8], ended: bool, out: &mut [u8]) -> Packed
         taken += length;
         blocks += 1;
     }
-    Packed { taken, blocks }
+    Progress { taken, blocks }
 }
 
-// How many bytes of `text` are the end of a line.
-pub fn count_line_ends(text: &[u8]) -> usize
-    ensures { result ≡ line_ends text.now }
+// What `pack_held` has packed.
+#[derive(Clone, Copy)]
+pub struct Packed {
+    // How many bytes are no longer held.
+    pub taken: usize,
+    // How many blocks stand first in the output.
+    pub blocks: usize,
+    // How many lines these have.
+    pub lines: usize,
+}
+
+// Packs the bytes of an input that are read and not packed yet: the first `held` of a buffer, or all where it has no more. Those that are left are moved to
+// its front. With `complete` the whole input is read.
+pub fn pack_held(input: &mut [u8], held: usize, complete: bool, output: &mut [u8]) -> Packed
+    ensures { record { packed = result; input = input.new; output = output.new } ≡ held_packed complete input.old held output.old }
+{
+    let held = held.min(input.len());
+    let progress = pack(&input[..held], complete, output);
+    let taken = progress.taken;
+    let lines = count_line_ends(&input[..taken]);
+    input.copy_within(taken..held, 0);
+    Packed {
+        taken,
+        blocks: progress.blocks,
+        lines,
+    }
+}
+
+fn count_line_ends(text: &[u8]) -> usize
+    ensures { result ≡ count_by (λ byte. eqb byte 10) text.now }
 {
     let mut ends = 0;
     for &byte in text {

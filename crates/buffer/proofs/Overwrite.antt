@@ -11,6 +11,7 @@ use lib.Seq.{length-take-le, take-add, take-append_seam, drop-append_seam, take_
 use borrow.Author.Tests.{le-leb, lt-leb}
 use borrow.Rule.Slice.PartMut.{put_mid}
 use Rattle.std.proofs.lemmas.Slice.{put_mid-paste}
+use Rattle.std.specs.List.{copy_within}
 use Rattle.std.proofs.lemmas.List.Edits.{paste_all}
 use Rattle.buffer.specs.Overwrite.{overwrite}
 
@@ -117,3 +118,12 @@ pub overwrite_lent :
     → start ≡ at → end ≡ at + length t → end ≤ length l → part ≡ t → put_mid start (end - start) l part ≡ overwrite l at t
 overwrite_lent l at start end t s e within put =
     put_mid-paste start _ l _ t (length t) put (omega arith) refl ∙ paste_all l start t (length t) refl ∙ rw (s, overwrite_fits l at t (omega arith), append_assoc)
+
+-- ── bytes moved to the front ──
+-- What the library's `copy_within` does to the front.
+pub copied_to_front : (l : List ℕ) (from count : ℕ) → from + count ≤ length l → copy_within l from (from + count) 0 ≡ overwrite l 0 (take count (drop from l))
+unfolding overwrite
+copied_to_front l from count within =
+    let whole : from + count - from ≡ count = omega arith in
+    let size : length (take count (drop from l)) ≡ count = length-take-le count (drop from l) (rw length-drop (omega arith)) in
+    rw (whole, size, zero-add, le-leb count (length l) (omega arith)) refl

@@ -15,17 +15,10 @@ use Rattle.text.proofs.LineEnd.{ended_before}
 use Rattle.std.specs.List.{copy_within}
 use Rattle.std.proofs.lemmas.List.{drop-take}
 use Rattle.buffer.specs.Overwrite.{overwrite}
+use Rattle.buffer.proofs.Overwrite.{copied_to_front}
 use Rattle.lines.specs.Output.{output_of}
 use Rattle.lines.specs.Answer.{ended_length, answered_of, held_of, answered, room_for}
 use Rattle.lines.proofs.EndedLines.{ended_length_within, take_min, held_take}
-
--- What the library's `copy_within` does to the front.
-copied_to_front : (l : List ℕ) (from count : ℕ) → from + count ≤ length l → copy_within l from (from + count) 0 ≡ overwrite l 0 (take count (drop from l))
-unfolding overwrite
-copied_to_front l from count within =
-    let whole : from + count - from ≡ count = omega arith in
-    let size : length (take count (drop from l)) ≡ count = length-take-le count (drop from l) (rw length-drop (omega arith)) in
-    rw (whole, size, zero-add, le-leb count (length l) (omega arith)) refl
 
 -- The first `held` bytes of the input are at hand; of these, `taken` are answered.
 module _

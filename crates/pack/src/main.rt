@@ -1,9 +1,10 @@
 // Packs the lines of standard input into blocks of 512 bytes on standard output. A line that no block can hold ends it, with the lines before
 // it written.
 //
-// That the blocks are those of the whole text, wherever the input is cut into pieces, is proved in `archive`; here it is proved that the
-// program is safe and ends. No contract says what the system moves, so it is assumed that `read` puts the next bytes of the input first in
-// the buffer that it is lent and returns their number, that `write_all` hands on the bytes that it is lent, and that both return.
+// What each call packs, and that such calls make up the archive of the input, wherever it is cut into pieces, is proved in `archive`
+// (`IsStep`, `RunWritesArchive`); here it is proved that the program is safe and ends. That it calls so, and writes the blocks of each call,
+// is to be read here. No contract says what the system moves, so it is assumed that `read` puts the next bytes of the input first in the
+// buffer that it is lent and returns their number, that `write_all` hands on the bytes that it is lent, and that both return.
 #![tactic(auto)]
 
 ghost use Rattle.std.specs.Prelude.{◌≡◌, ◌+◌, ◌≤◌, length};
@@ -21,7 +22,7 @@ const INPUT: usize = 65536;
 // packed in another turn.
 const OUTPUT: usize = 131072;
 
-// What ends the program before its input does. Lines are counted from 1 on.
+// Why the program ends without having packed its whole input. Lines are counted from 1 on.
 #[derive(Clone, Copy, Debug, PartialEq, Eq)]
 enum Failure {
     Read,
@@ -59,29 +60,23 @@ struct Input<'a> {
 
 impl<'a> Input<'a> {
     // Packs what is settled, as far as `output` has room for it.
-    fn pack(&mut self, ended: bool, output: &mut [u8; OUTPUT]) -> archive::Packed
+    fn pack(&mut self, complete: bool, output: &mut [u8; OUTPUT]) -> archive::Packed
         ensures taken { self.old.held ≡ self.new.held + result.taken }
         ensures blocks { result.blocks ≤ 256 }
     {
-        let held = self.held;
-        let buffer = &mut *self.buffer;
-        let packed = archive::pack(&buffer[..held], ended, output);
-        let taken = packed.taken;
-        let lines = archive::count_line_ends(&buffer[..taken]);
-        buffer.copy_within(taken..held, 0);
-        self.held = held - taken;
-        self.lines = self.lines.saturating_add(lines as u64);
+        let packed = archive::pack_held(self.buffer, self.held, complete, output);
+        self.held -= packed.taken;
+        self.lines = self.lines.saturating_add(packed.lines as u64);
         packed
     }
 
-    // Where `pack` takes nothing, that nothing is wrong: less than 508 bytes are held then, which leaves room to read, and behind the end of
-    // the input none.
-    fn check_rest(&self, ended: bool) -> Result<(), Failure> {
+    // Called where `pack` took nothing: a line that cannot be stored stands first, or fewer than 508 bytes are held and there is room to read.
+    fn check_rest(&self, complete: bool) -> Result<(), Failure> {
         let line = self.lines.saturating_add(1);
         if self.held >= CAPACITY {
             return Err(Failure::LineTooLong { line });
         }
-        if ended & (self.held > 0) {
+        if complete & (self.held > 0) {
             return Err(Failure::LineWithoutEnd { line });
         }
         Ok(())
@@ -92,15 +87,15 @@ impl<'a> Input<'a> {
 fn pack_all(
     rt: &impl Print,
     input: &mut Input<'_>,
-    ended: bool,
+    complete: bool,
     output: &mut [u8; OUTPUT],
 ) -> Result<(), Failure> {
     loop {
-        let packed = input.pack(ended, output);
+        let packed = input.pack(complete, output);
         rt.write_all(&output[..BLOCK * packed.blocks])
             .map_err(|_| Failure::Write)?;
         if packed.taken == 0 {
-            return input.check_rest(ended);
+            return input.check_rest(complete);
         }
     }
 }
@@ -116,9 +111,9 @@ fn turn<R: Print, I: Read>(
         .read(&mut input.buffer[input.held..])
         .map_err(|_| Failure::Read)?;
     input.held += count;
-    let ended = count == 0;
-    pack_all(rt, input, ended, output)?;
-    Ok(!ended)
+    let complete = count == 0;
+    pack_all(rt, input, complete, output)?;
+    Ok(!complete)
 }
 
 // Nothing says that an input ends, so the turns are counted, up to a number that no run reaches.

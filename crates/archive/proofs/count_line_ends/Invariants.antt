@@ -1,6 +1,6 @@
 -- The loop of `archive::count_line_ends`: how many of the bytes so far are byte 10.
 use Rattle.std.proofs.Common.{◌≡◌, take}
-use Rattle.archive.specs.Stream.{line_ends}
+use Rattle.archive.proofs.Claims.{line_ends}
 use Rattle.archive.proofs.count_line_ends.Given as goal
 
 abbrev pub invariant-loop-byte : goal.invariant-loop-byte

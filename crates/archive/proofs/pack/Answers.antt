@@ -17,7 +17,7 @@ returns-after-loop-blocks c = placed_done c.loop-blocks.invariant (placed_full c
 pub returns-then-not-settled : goal.returns-then-not-settled
 returns-then-not-settled c =
     let open· = rw (take_rest c.args.text.now c.loop-blocks.taken) at c.if-not-settled.true in
-    placed_done c.loop-blocks.invariant (packed_unsettled _ c.args.ended (drop c.loop-blocks.taken c.args.text.now) open·)
+    placed_done c.loop-blocks.invariant (packed_unsettled _ c.args.complete (drop c.loop-blocks.taken c.args.text.now) open·)
 
 pub returns-then-length-eq0 : goal.returns-then-length-eq0
 returns-then-length-eq0 c =

@@ -5,7 +5,7 @@ use Rattle.archive.proofs.Placed.{Placed}
 use Rattle.archive.proofs.pack.Given as goal
 
 abbrev pub invariant-loop-blocks : goal.invariant-loop-blocks
-invariant-loop-blocks l = Placed l.fn.text l.fn.ended l.fn.out l.out (length l.fn.out / 512 - l.blocks) l.taken l.blocks
+invariant-loop-blocks l = Placed l.fn.text l.fn.complete l.fn.out l.out (length l.fn.out / 512 - l.blocks) l.taken l.blocks
 
 abbrev pub decreases-loop-blocks : goal.decreases-loop-blocks
 decreases-loop-blocks l = length l.fn.out / 512 - l.blocks

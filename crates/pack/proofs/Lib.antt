@@ -1,2 +1,0 @@
--- Bounds on what is packed.
-pub mod Taken
