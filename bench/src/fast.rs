@@ -8,7 +8,7 @@ use std::io::{self, Read, Write};
 const STOREY_NUMBERS: usize = 19;
 const CELLAR_NUMBERS: usize = 10;
 
-/// Input and output are moved in pieces of this many bytes.
+/// Input and output of a schedule are moved in pieces of this many bytes.
 const PIECE: usize = 64 * 1024;
 
 /// Reads N numbers, each with one space before it. The place behind the last one, where they are all of the form, else

@@ -1,12 +1,18 @@
 //! The archive as fast as we could make it in safe Rust: a block takes all up to the last end of a line among the bytes
 //! that fit, which is what filling it line by line comes to, so lines are not looked at one by one.
 
-use super::{Gathered, PIECE};
+use super::Gathered;
 use crate::{archived, Archived, BAD_BLOCK, BAD_TEXT, BLOCK, HEAD, ROOM};
 use std::io::{self, Read, Write};
 
 const ENDS: u64 = u64::from_le_bytes([b'\n'; 8]);
 const LOW_BITS: u64 = u64::from_le_bytes([0x7F; 8]);
+
+/// The programs move at most so many bytes at once. These are the sizes of the repository's own, and what is read is
+/// written at once as there, so that no program is ahead by fewer calls of the system.
+const PACK_INPUT: usize = 64 * 1024;
+const PACK_OUTPUT: usize = 128 * 1024;
+const UNPACK: usize = 128 * 1024;
 
 /// How many bytes the longest beginning that ends in byte 10 has, eight bytes at a time from behind.
 #[inline(always)]
@@ -160,15 +166,16 @@ pub fn pack(
 ) -> io::Result<()> {
     let mut output = Gathered {
         output,
-        bytes: vec![0; PIECE],
+        bytes: vec![0; PACK_OUTPUT],
         used: 0,
     };
-    let mut piece = vec![0; PIECE];
+    let mut piece = vec![0; PACK_INPUT];
     let (mut kept, mut written_lines) = (0, 0);
     loop {
         let read = input.read(&mut piece[kept..])?;
         let held = kept + read;
         let start = put_blocks(&piece[..held], read == 0, &mut output, &mut written_lines)?;
+        output.flush()?;
         kept = held - start;
         if read == 0 || kept >= ROOM {
             break;
@@ -178,7 +185,7 @@ pub fn pack(
     if kept > 0 {
         refused(written_lines + 1);
     }
-    output.flush()
+    Ok(())
 }
 
 /// The unpack program. Each block that is refused is handed to `refused` by its number, from 0, and passed over.
@@ -187,7 +194,7 @@ pub fn unpack(
     mut output: impl Write,
     mut refused: impl FnMut(u64),
 ) -> io::Result<()> {
-    let mut piece = vec![0; PIECE];
+    let mut piece = vec![0; UNPACK];
     let (mut kept, mut number) = (0, 0);
     loop {
         let read = input.read(&mut piece[kept..])?;

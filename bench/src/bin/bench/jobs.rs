@@ -195,7 +195,7 @@ impl Job {
         Ok(checked(&what, cost_long <= GROWTH_LIMIT * cost_short) && same)
     }
 
-    /// Whether all programs write the same on an input of which something is refused, and tell that.
+    /// Whether all programs write the same on an input of which something is refused, tell that and end with status 1.
     pub fn agree_on_refused(&self, input: &[u8]) -> io::Result<bool> {
         let path = self.folder.join("refused");
         fs::write(&path, input)?;
@@ -204,7 +204,9 @@ impl Job {
             .iter()
             .map(|program| program.told(&path))
             .collect::<io::Result<Vec<_>>>()?;
-        let told = outputs.iter().all(|output| !output.stderr.is_empty());
+        let told = outputs
+            .iter()
+            .all(|output| !output.stderr.is_empty() && output.status.code() == Some(1));
         Ok(told
             && outputs
                 .iter()
