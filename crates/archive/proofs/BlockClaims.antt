@@ -9,7 +9,7 @@ use lib.Seq.{length-take-le, take-append_seam, drop-append_seam, drop-drop}
 use Rattle.std.specs.Prelude.{replicate, sum, Ok}
 use Rattle.std.proofs.lemmas.List.Sums.{sum_by-cons, sum_by-set}
 use Rattle.archive.specs.Block.{two_bytes, number_at, block_of, used, sum_of_others, used_part, remainder, whole_lines, read_block}
-use Rattle.archive.specs.Claims.{Bytes, LessTightlyRead, ReadExactly, ChangedByteRefused}
+use Rattle.archive.specs.Claims.{Bytes, LessTightlyRead, ReadExactly, YieldsFromByteFour, ChangedByteRefused}
 use Rattle.archive.proofs.BlockParts.{Valid, sum_zeros, read_yields, read_only_valid, invalid_refused}
 
 -- ── the parts of the block of some lines ──
@@ -127,6 +127,14 @@ read_exactly block lines bytes is =
     in_parts
     (λ block. Bytes block → read_block block ≡ Ok lines → (block ≡ block_of lines) × ((length lines ≤ 508) × (whole_lines lines ≡ true)))
     (λ b₀ b₁ b₂ b₃ rest size bytes is. exactly_in_parts b₀ b₁ b₂ b₃ rest size bytes lines is) block (read_only_valid block is).0.size bytes is
+
+pub yields_from_byte_four : YieldsFromByteFour
+unfolding used_part
+yields_from_byte_four block lines is =
+    let only = read_only_valid block is in
+    let size : length lines ≡ used block =
+    ap length only.1 ∙ length-take-le (used block) (drop 4 block) (omega (arith, only.0.count, only.0.size, length-drop 4 block)) in
+    only.1 ∙ ap (λ n. take n (drop 4 block)) (sym size)
 
 -- ── a changed byte ──
 module _ (b₀ b₁ b₂ b₃ : ℕ) (rest : List ℕ) (size : length rest ≡ 508) (bytes : Bytes (b₀ ∷ b₁ ∷ b₂ ∷ b₃ ∷ rest)) (s : Valid (b₀ ∷ b₁ ∷ b₂ ∷ b₃ ∷ rest)) where

@@ -36,16 +36,13 @@ whole_last bytes last is =
     rw (← get_or_from_slice_get bytes (length bytes - 1) last 0 (sym is), ne_eqb (length bytes) 0 (omega (arith, some))) refl
 
 -- ── sums of bytes ──
-sum_first : (byte : ℕ) (l : List ℕ) → sum (byte ∷ l) ≡ byte + sum l
-sum_first = sum_by-cons (λ n. n)
-
 -- Bytes are zero where their sum is.
 pub zeros_test : (l : List ℕ) → list_all (λ byte. eqb byte 0) l ≡ eqb (sum l) 0
 zeros_test [] = refl
 zeros_test (byte ∷ l) =
     elim (ℕ_discrete byte 0) [
-      | yes is ↦ rw (eq-eqb byte 0 is, sum_first byte l, is, zero-add) (zeros_test l)
-      | no isnt ↦ rw (ne_eqb byte 0 isnt, ne_eqb (sum (byte ∷ l)) 0 (omega (arith, sum_first byte l, isnt))) refl
+      | yes is ↦ rw (eq-eqb byte 0 is, sum_by-cons (λ n. n) byte l, is, zero-add) (zeros_test l)
+      | no isnt ↦ rw (ne_eqb byte 0 isnt, ne_eqb (sum (byte ∷ l)) 0 (omega (arith, sum_by-cons (λ n. n) byte l, isnt))) refl
     ]
 
 -- Bits that are gathered are none where the sum is 0.
@@ -175,9 +172,6 @@ pub read_valid :
     → Ok lines ≡ read_block block
 unfolding read_block used_part
 read_valid block s is r l = rw (← s, ← is, ← r, ← l) refl
-
-pub valid_fits : (block : List ℕ) → true ≡ valid block → Valid block
-valid_fits block s = valid_parts block (sym s)
 
 pub read_yields : (block : List ℕ) → Valid block → Ok (used_part block) ≡ read_block block
 unfolding read_block

@@ -2,26 +2,30 @@
 use Prim.Native.Nat.{ℕ, zero, suc, ◌+◌, ◌-◌, ◌*◌, ◌/◌, ◌%◌, ◌≤◌, ◌<◌}
 use native.Mathlib.Decide.{dec_lt}
 use native.Mathlib.Omega.{arith}
-use mathlib.Core.Bool.{true, ◌&&◌}
+use mathlib.Core.Bool.{Bool, true, false, cond, ◌&&◌}
 use mathlib.Core.List.{List, [], ◌∷◌, ◌++◌, append_assoc}
-use mathlib.Core.Path.{◌≡◌, refl, ap, ◌∙◌}
+use mathlib.Core.Path.{◌≡◌, refl, sym, ap, ◌∙◌}
 use lib.Dec.{leb}
 use lib.ListN.{length, take, drop, get_or, set, length-append}
 use lib.Seq.{take-set-lt, drop-append-add, take_at}
 use borrow.Author.Tests.{le-leb, leb-true}
-use Rattle.std.specs.Prelude.{All, flat_map, replicate, sum, Ok, Err}
+use Rattle.std.specs.Prelude.{All, flat_map, replicate, sum, Result, Ok, Err}
 use Rattle.std.proofs.lemmas.List.Elements.{All-head, All-tail, All-nil, All-cons, All-append, All-replicate, All-take, All-drop}
-use Rattle.std.proofs.lemmas.List.{drop-set-lt, drop-set-add, take-set-le, get_or-take, get_or-drop}
+use Rattle.std.proofs.lemmas.List.{ext_get_or, drop-set-lt, drop-set-add, take-set-le, get_or-take, get_or-drop}
+use Rattle.std.specs.Result.{result_unwrap_or}
+use Rattle.std.specs.List.{concat}
+use Rattle.text.specs.LineEnd.{lines_of}
 use Rattle.basis.proofs.Choice.{and_left, and_right, cond_cases}
 use Rattle.buffer.specs.Overwrite.{overwrite}
-use Rattle.buffer.proofs.Overwrite.{overwrite_start, overwrite_behind}
-use Rattle.archive.specs.Block.{two_bytes, block_of, read_block}
+use Rattle.buffer.proofs.Overwrite.{overwrite_start, overwrite_none}
+use Rattle.archive.specs.Block.{two_bytes, block_of, valid, used_part, read_block}
 use Rattle.archive.specs.Packing.{storable, contents, archive_of}
 use Rattle.archive.specs.Stream.{first_length}
 use Rattle.archive.specs.Entry.{Stored, stored, block_count}
-use Rattle.archive.specs.Claims.{Bytes, HoldsLines, IsStored, block_at, WrittenReadsBack, OneBlockLost, BytesBehindStay, SameCount, NothingWritten}
+use Rattle.archive.specs.Claims.{Bytes, HoldsLines, IsStored, block_at, WrittenAtPlace, WrittenReadsBack, ReadBackIsText, OneBlockLost, SameCount, NothingWritten, EmptyTextTakesNone, OnlyTheseRefusals}
 use Rattle.archive.proofs.Settled.{block_length}
-use Rattle.archive.proofs.Claims.{by_blocks, no_line_split}
+use Rattle.archive.proofs.Claims.{by_blocks, no_line_split, same_bytes, same_lines}
+use Rattle.archive.proofs.Packing.{storable_none, contents_none, archive_none}
 use Rattle.archive.proofs.BlockClaims.{less_tightly_read, changed_byte_refused}
 
 -- ── whether it is written ──
@@ -93,19 +97,46 @@ module _ (text buffer : List ℕ) (s : IsStored text buffer) where
       let holds = no_line_split text s.good k [] within in
       ap read_block (block_written k within) ∙ less_tightly_read (get_or (contents text) k []) holds.fits holds.whole
 
+pub written_at_place : WrittenAtPlace
+written_at_place = block_written
+
 pub written_reads_back : WrittenReadsBack
 written_reads_back = block_reads_back
 
-pub bytes_behind_stay : BytesBehindStay
-unfolding stored
-bytes_behind_stay text buffer =
-    let count = 512 * length (contents text) in
-    cond_cases (λ (p : Stored). drop count p.buffer ≡ drop count buffer) (storable text && leb (length (contents text)) (length buffer / 512))
-    (λ both.
-    let size : 0 + length (archive_of text) ≡ count =
-    omega (arith, archive_length text (and_left (storable text) (leb (length (contents text)) (length buffer / 512)) both)) in
-    rw size at (overwrite_behind buffer 0 (archive_of text)))
-    (λ _. refl)
+pub read_back_is_text : ReadBackIsText
+read_back_is_text text buffer s yields size back =
+    let one : (k : ℕ) → k < length yields → get_or yields k [] ≡ get_or (contents text) k [] =
+    λ k few. ap (λ r. result_unwrap_or r []) (sym (back k few) ∙ block_reads_back text buffer s k (omega (arith, size, few))) in
+    let all : yields ≡ contents text = ext_get_or [] yields (contents text) size one in
+    (ap concat all ∙ same_bytes text s.good, ap (flat_map lines_of) all ∙ same_lines text s.good)
+
+-- ── no block, and refusals ──
+pub empty_text_takes_none : EmptyTextTakesNone
+unfolding block_count stored
+empty_text_takes_none buffer =
+    let none : overwrite buffer 0 (archive_of []) ≡ buffer = ap (overwrite buffer 0) archive_none ∙ overwrite_none buffer 0 in
+    (rw (storable_none, contents_none) refl, rw (storable_none, contents_none, none, le-leb 0 (length buffer / 512) (omega arith)) refl)
+
+only_one : {A : Type 0} (good : Bool) (answer : A) (number refusal : ℕ) → cond {A = Result A ℕ} good (Ok answer) (Err number) ≡ Err refusal → refusal ≡ number
+only_one true answer number refusal is = absurd cc
+only_one false answer number refusal is = cc
+
+answer_of :
+    (good : Bool) (count : ℕ) (written buffer : List ℕ)
+    → (cond {A = Stored} good (record { answer = Ok count; buffer = written }) (record { answer = Err 24; buffer = buffer })).answer
+    ≡ cond {A = Result ℕ ℕ} good (Ok count) (Err 24)
+answer_of true count written buffer = refl
+answer_of false count written buffer = refl
+
+pub only_these_refusals : OnlyTheseRefusals
+unfolding block_count stored read_block
+only_these_refusals text buffer block refusal =
+    let count = length (contents text) in
+    let fits = storable text && leb count (length buffer / 512) in (
+      only_one (storable text) count 24 refusal,
+      (λ is. only_one fits count 24 refusal (sym (answer_of fits count (overwrite buffer 0 (archive_of text)) buffer) ∙ is)),
+      only_one (valid block) (used_part block) 23 refusal,
+    )
 
 -- ── bytes ──
 bytes_of_block : (lines : List ℕ) → length lines ≤ 508 → Bytes lines → Bytes (block_of lines)

@@ -42,6 +42,10 @@ abbrev pub ReadExactly : Type 0
 ReadExactly =
     (block lines : List ℕ) → Bytes block → read_block block ≡ Ok lines → (block ≡ block_of lines) × ((length lines ≤ 508) × (whole_lines lines ≡ true))
 
+-- What a block yields is its bytes from byte 4 on.
+abbrev pub YieldsFromByteFour : Type 0
+YieldsFromByteFour = (block lines : List ℕ) → read_block block ≡ Ok lines → lines ≡ take (length lines) (drop 4 block)
+
 -- "after exactly one byte of one block is changed, that block is refused".
 abbrev pub ChangedByteRefused : Type 0
 ChangedByteRefused =
@@ -57,11 +61,24 @@ pub record IsStored (text buffer : List ℕ) : Type 0 where
   pub good : storable text ≡ true
   pub room : length (contents text) ≤ length buffer / 512
 
+-- "block k is written from byte 512k on".
+abbrev pub WrittenAtPlace : Type 0
+WrittenAtPlace =
+    (text buffer : List ℕ) → IsStored text buffer → (k : ℕ) → k < length (contents text)
+    → block_at k (stored text buffer).buffer ≡ block_of (get_or (contents text) k [])
+
 -- "Reading back what was written yields the same lines", block by block.
 abbrev pub WrittenReadsBack : Type 0
 WrittenReadsBack =
     (text buffer : List ℕ) → IsStored text buffer → (k : ℕ) → k < length (contents text)
     → read_block (block_at k (stored text buffer).buffer) ≡ Ok (get_or (contents text) k [])
+
+-- Whatever the blocks yield when they are read back, together it is the text, and has its lines.
+abbrev pub ReadBackIsText : Type 0
+ReadBackIsText =
+    (text buffer : List ℕ) → IsStored text buffer → (yields : List (List ℕ)) → length yields ≡ length (contents text)
+    → ((k : ℕ) → k < length yields → read_block (block_at k (stored text buffer).buffer) ≡ Ok (get_or yields k []))
+    → (concat yields ≡ text) × (flat_map lines_of yields ≡ lines_of text)
 
 -- ".. after exactly one byte of one block is changed, that block is refused and all others yield theirs."
 abbrev pub OneBlockLost : Type 0
@@ -81,3 +98,15 @@ SameCount = (text buffer : List ℕ) → IsStored text buffer → (stored text b
 
 abbrev pub NothingWritten : Type 0
 NothingWritten = (text buffer : List ℕ) → (IsStored text buffer → ⊥) → ((stored text buffer).answer ≡ Err 24) × ((stored text buffer).buffer ≡ buffer)
+
+-- "Empty text takes no block".
+abbrev pub EmptyTextTakesNone : Type 0
+EmptyTextTakesNone = (buffer : List ℕ) → (block_count [] ≡ Ok 0) × (stored [] buffer ≡ record { answer = Ok 0; buffer = buffer })
+
+-- Writer and count refuse as 24 alone, the reader as 23 alone: "refusal 20 doesn't arise here".
+abbrev pub OnlyTheseRefusals : Type 0
+OnlyTheseRefusals =
+    (text buffer block : List ℕ) (refusal : ℕ)
+    → (block_count text ≡ Err refusal → refusal ≡ 24)
+    × ((stored text buffer).answer ≡ Err refusal → refusal ≡ 24)
+    × (read_block block ≡ Err refusal → refusal ≡ 23)
