@@ -12,4 +12,5 @@ pub mod BlockClaims
 pub mod WrittenClaims
 pub mod Held
 pub mod Stream
+pub mod Unpacking
 pub mod Figures

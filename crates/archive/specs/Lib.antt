@@ -5,3 +5,4 @@ pub mod Entry
 pub mod Claims
 pub mod Figures
 pub mod Stream
+pub mod Unpacking

@@ -7,6 +7,7 @@ ghost use Rattle.std.specs.List.{count_by};
 ghost use Rattle.basis.specs.Refusal.{numbered};
 ghost use Rattle.archive.specs.Entry.{block_count, stored, archived};
 ghost use Rattle.archive.specs.Stream.{last_end, first_length, packed_into, held_packed};
+ghost use Rattle.archive.specs.Unpacking.{unpacked_into};
 
 mod block;
 
@@ -146,6 +147,35 @@ fn count_line_ends(text: &[u8]) -> usize
         }
     }
     ends
+}
+
+// What `unpack` has read.
+#[derive(Clone, Copy)]
+pub struct Unpacked {
+    // How many blocks yield their lines.
+    pub blocks: usize,
+    // How many bytes these have: they stand first in the output.
+    pub written: usize,
+}
+
+// Writes the lines of the first blocks of an archive, as many as `out` surely has room for, up to the first that is refused. A last piece under 512 bytes is.
+pub fn unpack(archive: &[u8], out: &mut [u8]) -> Unpacked
+    ensures { record { unpacked = result; buffer = out.new } ≡ unpacked_into archive.now out.old }
+{
+    let mut rest = archive;
+    let mut blocks = 0;
+    let mut written = 0;
+    while blocks < out.len() / BLOCK {
+        let (block, behind) = rest.split_at(rest.len().min(BLOCK));
+        let Ok(lines) = read_block(block) else {
+            break;
+        };
+        buffer::copy(out, written, lines);
+        written += lines.len();
+        blocks += 1;
+        rest = behind;
+    }
+    Unpacked { blocks, written }
 }
 
 // How many bytes the first block of a text takes: of the first 508 those that are whole lines.

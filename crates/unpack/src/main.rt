@@ -1,11 +1,12 @@
 // Reads blocks of 512 bytes from standard input and prints their lines. A block that is refused is left out and told of on standard error.
 //
-// What a block yields is proved in `archive`; here it is proved that the program is safe and ends. No contract says what the system moves,
-// so it is assumed that `read` puts the next bytes of the input first in the buffer that it is lent and returns their number, that
-// `write_all` hands on the bytes that it is lent, and that both return.
+// What a block and a row of blocks yield is proved in `archive`; here it is proved that the program is safe and ends. That it unpacks all
+// blocks in their order, and writes what they yield, is to be read here. No contract says what the system moves, so it is assumed that
+// `read` puts the next bytes of the input first in the buffer that it is lent and returns their number, that `write_all` hands on the bytes
+// that it is lent, and that both return.
 #![tactic(auto)]
 
-ghost use Rattle.std.specs.Prelude.{◌≡◌, ◌≤◌, length};
+ghost use Rattle.std.specs.Prelude.{◌≤◌, length};
 
 use archive::BLOCK;
 use basis::Refusal;
@@ -13,10 +14,12 @@ use std::fmt;
 use std::io::Read;
 use std::process::ExitCode;
 
-// How much is held at most: whole blocks.
+// How much is held at most: whole blocks. Their lines fit as many bytes.
 const INPUT: usize = 131072;
 
-// What ends the program before its input does.
+const OUTPUT: usize = INPUT;
+
+// Why the program ends without having read its whole input.
 #[derive(Clone, Copy, Debug, PartialEq, Eq)]
 enum Failure {
     Read,
@@ -51,11 +54,11 @@ impl fmt::Display for Refused {
     }
 }
 
-// Where the next block begins, and whether all before it were sound.
+// How many bytes of the input are behind, and whether all blocks in them yielded their lines.
 #[derive(Clone, Copy)]
 struct Progress {
     start: u64,
-    sound: bool,
+    intact: bool,
 }
 
 impl Progress {
@@ -66,7 +69,11 @@ impl Progress {
             start: self.start,
         };
         let _ = eprintln!(rt; "unpack: {refused}");
-        self.sound = false;
+        self.intact = false;
+    }
+
+    fn pass(&mut self, bytes: usize) {
+        self.start = self.start.saturating_add(bytes as u64);
     }
 }
 
@@ -76,40 +83,44 @@ struct Input<'a> {
     buffer: &'a mut [u8],
     held: usize,
     ghost within: { held ≤ length buffer.now },
-    ghost fits: { length buffer.now ≡ 131072 },
 }
 
-impl<'a> Input<'a> {
-    // Puts the lines of the blocks held into `output` and returns how many bytes they have. Where the input has ended, a last piece that
-    // is no whole block is refused by its length.
-    #[tactic(auto, using(crate::proofs::Lines::lines_most))]
-    fn unpack(
-        &mut self,
-        rt: &impl Eprint,
-        ended: bool,
-        progress: &mut Progress,
-        output: &mut [u8; INPUT],
-    ) -> usize
-        ensures { result ≤ 131072 }
-    {
-        let held = self.held;
-        let buffer = &mut *self.buffer;
-        let end = if ended { held } else { held - held % BLOCK };
-        let mut written = 0;
-        for block in buffer[..end].chunks(BLOCK) {
-            match archive::read_block(block) {
-                Ok(lines) => {
-                    output[written..written + lines.len()].copy_from_slice(lines);
-                    written += lines.len();
-                }
-                Err(refusal) => progress.refuse(rt, refusal),
-            }
-            progress.start = progress.start.saturating_add(BLOCK as u64);
-        }
-        buffer.copy_within(end..held, 0);
-        self.held = held - end;
-        written
+// Writes what one block yields, or tells that it is refused.
+fn unpack_block<R: Print + Eprint>(
+    rt: &R,
+    block: &[u8],
+    progress: &mut Progress,
+) -> Result<(), Failure> {
+    match archive::read_block(block) {
+        Ok(lines) => rt.write_all(lines).map_err(|_| Failure::Write)?,
+        Err(refusal) => progress.refuse(rt, refusal),
     }
+    progress.pass(block.len());
+    Ok(())
+}
+
+// Unpacks whole blocks; a last piece under 512 bytes is a block that is refused. Blocks that yield are written together, up to one that is refused.
+fn unpack_blocks<R: Print + Eprint>(
+    rt: &R,
+    blocks: &[u8],
+    progress: &mut Progress,
+    output: &mut [u8; OUTPUT],
+) -> Result<(), Failure> {
+    let mut rest = blocks;
+    while rest.len() > 0 {
+        let unpacked = archive::unpack(rest, output);
+        rt.write_all(&output[..unpacked.written])
+            .map_err(|_| Failure::Write)?;
+        let taken = BLOCK * unpacked.blocks;
+        progress.pass(taken);
+        let (_, behind) = rest.split_at(taken);
+        let (block, behind) = behind.split_at(behind.len().min(BLOCK));
+        if block.len() > 0 {
+            unpack_block(rt, block, progress)?;
+        }
+        rest = behind;
+    }
+    Ok(())
 }
 
 // Reads behind the bytes held, and unpacks. Whether there may be more to read.
@@ -118,41 +129,42 @@ fn turn<R: Print + Eprint, I: Read>(
     reader: &mut I,
     input: &mut Input<'_>,
     progress: &mut Progress,
-    output: &mut [u8; INPUT],
+    output: &mut [u8; OUTPUT],
 ) -> Result<bool, Failure> {
     let count = reader
         .read(&mut input.buffer[input.held..])
         .map_err(|_| Failure::Read)?;
-    input.held += count;
-    let ended = count == 0;
-    let written = input.unpack(rt, ended, progress, output);
-    rt.write_all(&output[..written])
-        .map_err(|_| Failure::Write)?;
-    Ok(!ended)
+    let held = input.held + count;
+    let complete = count == 0;
+    let end = if complete { held } else { held - held % BLOCK };
+    unpack_blocks(rt, &input.buffer[..end], progress, output)?;
+    input.buffer.copy_within(end..held, 0);
+    input.held = held - end;
+    Ok(!complete)
 }
 
-// Whether all blocks were sound. Nothing says that an input ends, so the turns are counted, up to a number that no run reaches.
+// Whether all blocks yielded their lines. Nothing says that an input ends, so the turns are counted, up to a number that no run reaches.
 fn run<R: Print + Eprint, I: Read>(
     rt: &R,
     reader: &mut I,
     input: &mut Input<'_>,
-    output: &mut [u8; INPUT],
+    output: &mut [u8; OUTPUT],
 ) -> Result<bool, Failure> {
     let mut progress = Progress {
         start: 0,
-        sound: true,
+        intact: true,
     };
     for _ in 0..u64::MAX {
         if !turn(rt, reader, input, &mut progress, output)? {
             break;
         }
     }
-    Ok(progress.sound)
+    Ok(progress.intact)
 }
 
 fn main(rt: HostRuntime) -> ExitCode {
     let mut buffer = [0u8; INPUT];
-    let mut output = [0u8; INPUT];
+    let mut output = [0u8; OUTPUT];
     let mut input = Input {
         buffer: &mut buffer,
         held: 0,

@@ -1,2 +1,0 @@
--- A bound on what a block yields.
-pub mod Lines
