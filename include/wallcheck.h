@@ -5,7 +5,7 @@
  *
  * The functions keep no state and allocate nothing: any number of threads may call them at once. The caller owns
  * every buffer; the library reads or writes it during the call only and keeps no pointer to it. A null pointer is
- * allowed where the length beside it is 0. `line` and `out` must not overlap.
+ * allowed where the length beside it is 0. `line` and `out`, and `text` and `out`, must not overlap.
  *
  * Lengths are in mm, line loads in N/m. */
 #ifndef WALLCHECK_H
@@ -83,7 +83,7 @@ typedef struct {
     uint64_t count;
 } wallcheck_archived;
 
-/* The length of an archive's block. */
+/* The length of an archive's block, in bytes. */
 #define WALLCHECK_BLOCK_LEN 512
 
 /* The edition of the rules by which this library computes: a number to file with the results. 100 is the first edition;
@@ -137,13 +137,13 @@ wallcheck_result wallcheck_minimum_load_row_into(wallcheck_cells cells, double w
 wallcheck_archived wallcheck_archive_count(const uint8_t *text, size_t len);
 
 /* Writes these blocks, the first from byte 0 of `out` on, the next from byte 512 on, and so forth, and returns their
- * number. The bytes of `out` behind the last block stay as they are. Refusal 24 also where the blocks are more than the
- * buffer holds; nothing is written then. `text` and `out` must not overlap. */
+ * number. They need WALLCHECK_BLOCK_LEN bytes each. The bytes of `out` behind the last block stay as they are. Refusal 24
+ * also where the blocks are more than the buffer holds; nothing is written then. */
 wallcheck_archived wallcheck_archive_write(const uint8_t *text, size_t len, uint8_t *out, size_t out_len);
 
 /* How many bytes a block yields: its bytes from byte 4 on, whole lines. Refusal 23, and nothing is yielded: the length is
- * not 512, or count, sum or remainder is wrong, or the used bytes do not end in byte 10. A block without lines, as one of
- * 512 zeros, yields 0 bytes. */
+ * not 512, or count, sum or remainder is wrong, or the used bytes do not end in byte 10. The block without lines, 512
+ * zeros, yields 0 bytes. */
 wallcheck_archived wallcheck_archive_read(const uint8_t *block, size_t len);
 
 #ifdef __cplusplus

@@ -142,7 +142,7 @@ module _ (block : List ℕ) where
       let in_range = le-leb (used block) 508 (rw is at few) in
       let lines_is : lines ≡ used_part block = rw (r, is) at l in
       let behind_is : behind ≡ remainder block = b ∙ rw (r, is) (drop-drop (used block) 4 block) in
-      let others_are : others ≡ (sum (take 2 block) + sum (drop 4 block)) % 65536 = omega (arith, o, f, i, ap sum r) in
+      let others_are : others ≡ sum_of_others block = omega (arith, o, f, i, ap sum r) in
       let zeros_are : zeros ≡ list_all (λ byte. eqb byte 0) (remainder block) = z ∙ ap (list_all (λ byte. eqb byte 0)) behind_is in
       let whole_is : whole ≡ whole_lines (used_part block) = w ∙ ap whole_lines lines_is in
       rw (eq-eqb (length block) 512 size, in_range, ← t, ← others_are, ← zeros_are, ← whole_is) (and_assoc (eqb total others) zeros whole)
