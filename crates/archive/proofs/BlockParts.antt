@@ -19,7 +19,7 @@ use Rattle.buffer.proofs.Overwrite.{overwrite_joins, overwrite_start}
 use Rattle.std.specs.Prelude.{Result, Ok, Err}
 use Rattle.std.specs.List.{slice_get, list_all}
 use Rattle.std.proofs.lemmas.Option.{slice_get_within, get_or_from_slice_get}
-use Rattle.std.proofs.lemmas.List.Sums.{sum_by-cons}
+use Rattle.std.proofs.lemmas.List.Sums.{sum_by-cons, sum_by-take-drop}
 use Rattle.std.proofs.lemmas.List.Folds.{sum_by-replicate}
 use Rattle.basis.proofs.Choice.{and_left, and_right, cond_cases}
 use Rattle.archive.specs.Block.{two_bytes, block_of, number_at, used, sum_of_others, used_part, remainder, whole_lines, valid, read_block}
@@ -133,16 +133,19 @@ module _ (block : List ℕ) where
 
   -- Of a block of the right length and count, the tests of sum, remainder and lines, however its parts and their sums were found.
   pub valid_tests :
-      {count total front inner others : ℕ} {rest lines behind : List ℕ} {zeros whole : Bool} → length block ≡ 512 → count ≤ 508 → count ≡ used block
-      → rest ≡ drop 4 block → lines ≡ take count rest → behind ≡ drop count rest → total ≡ number_at 2 block → front ≡ sum (take 2 block) % 65536
-      → inner ≡ sum rest % 65536 → others ≡ (front + inner) % 65536 → zeros ≡ list_all (λ byte. eqb byte 0) behind → whole ≡ whole_lines lines
+      {count total all stated others : ℕ} {rest lines behind : List ℕ} {zeros whole : Bool} → length block ≡ 512 → count ≤ 508 → count ≡ used block
+      → rest ≡ drop 4 block → lines ≡ take count rest → behind ≡ drop count rest → total ≡ number_at 2 block → all ≡ sum block % 65536
+      → stated ≡ sum (take 2 (drop 2 block)) % 65536 → others ≡ (all + (65536 - stated)) % 65536
+      → zeros ≡ list_all (λ byte. eqb byte 0) behind → whole ≡ whole_lines lines
       → (eqb total others && zeros && whole) ≡ valid block
   unfolding valid used_part remainder sum_of_others
-  valid_tests {count} {total} {front} {inner} {others} {rest} {lines} {behind} {zeros} {whole} size few is r l b t f i o z w =
+  valid_tests {count} {total} {all} {stated} {others} {rest} {lines} {behind} {zeros} {whole} size few is r l b t a s o z w =
       let in_range = le-leb (used block) 508 (rw is at few) in
       let lines_is : lines ≡ used_part block = rw (r, is) at l in
       let behind_is : behind ≡ remainder block = b ∙ rw (r, is) (drop-drop (used block) 4 block) in
-      let others_are : others ≡ sum_of_others block = omega (arith, o, f, i, ap sum r) in
+      let front = sum_by-take-drop (λ n. n) block 2 in
+      let inner = sum_by-take-drop (λ n. n) (drop 2 block) 2 in
+      let others_are : others ≡ sum_of_others block = omega (arith, o, a, s, front, inner, ap sum (drop-drop 2 2 block)) in
       let zeros_are : zeros ≡ list_all (λ byte. eqb byte 0) (remainder block) = z ∙ ap (list_all (λ byte. eqb byte 0)) behind_is in
       let whole_is : whole ≡ whole_lines (used_part block) = w ∙ ap whole_lines lines_is in
       rw (eq-eqb (length block) 512 size, in_range, ← t, ← others_are, ← zeros_are, ← whole_is) (and_assoc (eqb total others) zeros whole)

@@ -61,7 +61,8 @@ fn is_valid(block: &[u8]) -> bool
     }
     let (_, rest) = block.split_at(LINES);
     let (lines, remainder) = rest.split_at(count);
-    let others = sum_of(&block[..SUM]).wrapping_add(sum_of(rest));
+    // All 512 bytes, less those of the sum: a length that is summed without a remainder.
+    let others = sum_of(block).wrapping_sub(sum_of(&block[SUM..LINES]));
     (number_at(block, SUM) == others) & are_zero(remainder) & whole_lines(lines)
 }
 

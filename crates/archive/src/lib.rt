@@ -2,7 +2,7 @@
 // Document 02, #107.
 #![tactic(auto)]
 
-ghost use Rattle.std.specs.Prelude.{◌≡◌, eqb};
+ghost use Rattle.std.specs.Prelude.{◌≡◌, ◌≤◌, eqb, length};
 ghost use Rattle.std.specs.List.{count_by};
 ghost use Rattle.basis.specs.Refusal.{numbered};
 ghost use Rattle.archive.specs.Entry.{block_count, stored, archived};
@@ -16,6 +16,9 @@ pub use block::{BLOCK, CAPACITY, read_block};
 use memchr::memrchr;
 
 const LINE_END: u8 = b'\n';
+
+// How many bytes are counted in one go: so few that a byte holds the count, and then many of them are compared at once.
+const PART: usize = 192;
 
 // What the functions of the C interface return: `wallcheck_archived` in the header.
 #[repr(C)]
@@ -140,8 +143,22 @@ pub fn pack_held(input: &mut [u8], held: usize, complete: bool, output: &mut [u8
 fn count_line_ends(text: &[u8]) -> usize
     ensures { result ≡ count_by (λ byte. eqb byte 10) text.now }
 {
+    let mut uncounted = text;
     let mut ends = 0;
-    for &byte in text {
+    while !uncounted.is_empty() {
+        let (part, behind) = uncounted.split_at(uncounted.len().min(PART));
+        ends += usize::from(count_in_part(part));
+        uncounted = behind;
+    }
+    ends
+}
+
+fn count_in_part(part: &[u8]) -> u8
+    requires { length part.now ≤ 255 }
+    ensures { result ≡ count_by (λ byte. eqb byte 10) part.now }
+{
+    let mut ends: u8 = 0;
+    for &byte in part {
         if byte == LINE_END {
             ends += 1;
         }
