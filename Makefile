@@ -11,7 +11,6 @@ PREFIX ?= /usr/local
 VERSION = 4.5.0
 SONAME = libwallcheck.so.$(firstword $(subst ., ,$(VERSION)))
 SHARED = libwallcheck.so.$(VERSION)
-PROGRAM = crates/schedule/out/schedule
 # What is installed, each with a script of its name.
 PROGRAMS = schedule pack unpack
 FUNCTIONS = wallcheck_edition wallcheck_line wallcheck_line_taken wallcheck_line_into wallcheck_row wallcheck_row_into \
@@ -52,16 +51,16 @@ callers: lib
 
 plain:
 	@$(CARGO_ENV) cargo build --quiet --release --offline --manifest-path bench/Cargo.toml
-	@for job in schedule pack unpack; do for program in simple fast; do \
+	@for job in $(PROGRAMS); do for program in simple fast; do \
 		$(BUILD)/cargo/release/$$program $$job <crates/$$job/stdin >$(BUILD)/$$program.out 2>$(BUILD)/$$program.told && \
 			cmp $(BUILD)/$$program.out crates/$$job/stdout || { cat $(BUILD)/$$program.told; exit 1; }; \
 	done; done
 	@echo "plain Rust: both print the stored expected output of all three programs"
 
 bench: lib plain
-	@./schedule </dev/null && ./pack </dev/null && ./unpack </dev/null
+	@for program in $(PROGRAMS); do ./$$program </dev/null || exit 1; done
 	@$(CARGO_ENV) cargo build --quiet --release --offline --features library --manifest-path bench/Cargo.toml
-	@WALLCHECK_BEFORE="$(BEFORE)" $(BUILD)/cargo/release/bench $(PROGRAM) crates/pack/out/pack crates/unpack/out/unpack
+	@WALLCHECK_BEFORE="$(BEFORE)" $(BUILD)/cargo/release/bench $(foreach program,$(PROGRAMS),crates/$(program)/out/$(program))
 
 install: lib
 	@for program in $(PROGRAMS); do ./$$program </dev/null || exit 1; done

@@ -77,10 +77,10 @@ typedef struct {
                              * silicate walls alone */
 } wallcheck_cells;
 
-/* What the functions of the archive return: 0 and a count; or refusal 23 or 24 and 0. */
+/* What the functions of the archive return: refusal 0 and a count; or refusal 23 or 24 and count 0. */
 typedef struct {
-    uint64_t refusal; /* 0; 23 a block that is refused; 24 a text that cannot be stored */
-    uint64_t count;
+    uint64_t refusal; /* 0; 23 a block that is refused; 24 a text that cannot be stored, or a buffer that is too short */
+    uint64_t count;   /* the blocks of a text, or the bytes that a block yields */
 } wallcheck_archived;
 
 /* The length of an archive's block, in bytes. */
@@ -138,11 +138,11 @@ wallcheck_archived wallcheck_archive_count(const uint8_t *text, size_t len);
 
 /* Writes these blocks, the first from byte 0 of `out` on, the next from byte 512 on, and so forth, and returns their
  * number. They need WALLCHECK_BLOCK_LEN bytes each. The bytes of `out` behind the last block stay as they are. Refusal 24
- * also where the blocks are more than the buffer holds; nothing is written then. */
+ * also where the blocks are more than the buffer holds. With refusal 24 nothing is written. */
 wallcheck_archived wallcheck_archive_write(const uint8_t *text, size_t len, uint8_t *out, size_t out_len);
 
 /* How many bytes a block yields: its bytes from byte 4 on, whole lines. Refusal 23, and nothing is yielded: the length is
- * not 512, or count, sum or remainder is wrong, or the used bytes do not end in byte 10. The block without lines, 512
+ * not 512, or count, sum or remainder is wrong, or there are used bytes and the last is not byte 10. The block without lines, 512
  * zeros, yields 0 bytes. */
 wallcheck_archived wallcheck_archive_read(const uint8_t *block, size_t len);
 

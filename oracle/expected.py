@@ -1,5 +1,5 @@
-"""Reads the standard input of a program, and prints and tells on standard error what the program must for it; the status
-is 1 where something is told. Without a name the program is schedule.
+"""Reads the standard input of a program, prints what the program must print for it, and tells on standard error what it must
+tell; the status is 1 where something is told. Without a name the program is schedule.
 
     python3 oracle/generate.py lines 25000 | python3 oracle/expected.py
     python3 oracle/expected.py pack <examples/terraced-house.txt >walls.archive

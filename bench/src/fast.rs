@@ -1,4 +1,4 @@
-//! As fast as byte by byte can be: each byte is looked at once, numbers of 64 bits, no allocation for a line.
+//! As fast as we could make it. A line byte by byte: each is looked at once, numbers of 64 bits, no allocation for a line.
 
 pub mod archive;
 

@@ -1,5 +1,5 @@
 //! The wall check in plain Rust, without proofs, to compare speed with: `simple` as one would first
-//! write it, `fast` as fast as reading byte by byte can be made. Each has the whole program and functions for one
+//! write it, `fast` as fast as we could make it by hand. Each has the whole program and functions for one
 //! line and one row, also of the minimum load in the top storey; and `archive`, with the functions and both programs
 //! of archived schedules.
 

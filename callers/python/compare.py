@@ -250,7 +250,7 @@ def compare_archive_texts(library, comparison, count):
             comparison.equal((text, length), archived_into(library, text, length), archived_into_by_oracle(text, length))
         _, area = archived_into(library, text, size)
         read_back = [block_of_archive(library, block) for block in archive.pieces(area[len(GUARD):len(GUARD) + size])]
-        comparison.equal(text, (b''.join(used for _, used in read_back), sum(told[0] for told, _ in read_back)),
+        comparison.equal(text, (b''.join(used for _, used in read_back), sum(answer[0] for answer, _ in read_back)),
                          (b'' if told.refusal else text, 0))
         compared += 1
     return compared

@@ -188,6 +188,31 @@ pub fn pack(
     Ok(())
 }
 
+/// Moves the lines of the whole blocks of a piece to its front, where blocks have been read already. How many bytes the
+/// blocks have, and how many the lines.
+#[inline(always)]
+fn move_lines(
+    piece: &mut [u8],
+    held: usize,
+    number: &mut u64,
+    refused: &mut impl FnMut(u64),
+) -> (usize, usize) {
+    let (mut start, mut lines_end) = (0, 0);
+    while let Some(block) = piece[start..held].first_chunk() {
+        let from = start + HEAD;
+        start += BLOCK;
+        match yielded(block) {
+            Some(count) => {
+                piece.copy_within(from..from + count, lines_end);
+                lines_end += count;
+            }
+            None => refused(*number),
+        }
+        *number += 1;
+    }
+    (start, lines_end)
+}
+
 /// The unpack program. Each block that is refused is handed to `refused` by its number, from 0, and passed over.
 pub fn unpack(
     mut input: impl Read,
@@ -202,20 +227,7 @@ pub fn unpack(
             break;
         }
         let held = kept + read;
-        // The lines are moved to the front of the piece, where blocks have been read already.
-        let (mut start, mut lines_end) = (0, 0);
-        while let Some(block) = piece[start..held].first_chunk() {
-            let from = start + HEAD;
-            start += BLOCK;
-            match yielded(block) {
-                Some(count) => {
-                    piece.copy_within(from..from + count, lines_end);
-                    lines_end += count;
-                }
-                None => refused(number),
-            }
-            number += 1;
-        }
+        let (start, lines_end) = move_lines(&mut piece, held, &mut number, &mut refused);
         output.write_all(&piece[..lines_end])?;
         piece.copy_within(start..held, 0);
         kept = held - start;

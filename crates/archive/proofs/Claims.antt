@@ -1,5 +1,5 @@
 -- The claims about archives.
-use Prim.Native.Nat.{ℕ, zero, suc, ◌+◌, ◌-◌, ◌≤◌, ◌<◌}
+use Prim.Native.Nat.{ℕ, zero, suc, ◌+◌, ◌-◌, ◌*◌, ◌≤◌, ◌<◌}
 use native.Mathlib.Decide.{ℕ_discrete, dec_le}
 use native.Mathlib.Omega.{arith}
 use mathlib.Core.Bool.{true, false, false≢true, cond}
@@ -7,21 +7,22 @@ use lib.Dec.{eqb}
 use Rattle.std.proofs.lemmas.List.Sums.{sum_by-cons, sum_by-append}
 use mathlib.Core.List.{List, [], ◌∷◌, ◌++◌}
 use mathlib.Core.Path.{◌≡◌, refl, sym, ap, ◌∙◌}
-use lib.ListN.{length, take, drop, get_or, length-drop, take-append-drop}
+use lib.ListN.{length, take, drop, get_or, length-append, length-drop, take-append-drop}
 use lib.Seq.{take-append-add, take-add, take-take, take-nil, length-take-le}
 use Rattle.std.proofs.lemmas.List.Elements.{All-nil, All-cons}
 use Rattle.std.specs.Prelude.{All, flat_map}
 use Rattle.std.specs.List.{concat, count_by}
+use Rattle.basis.proofs.Choice.{or_left, or_right}
 use Rattle.text.specs.LineEnd.{ended, line_length, lines_of}
 use Rattle.text.proofs.LineEnd.{ended_cases, line_cases, ended_line, line_length_line, lines_of_line, Whole, whole_none as Whole-none, whole_line as Whole-line}
-use Rattle.archive.specs.Block.{whole_lines}
-use Rattle.archive.specs.Packing.{storable, contents}
+use Rattle.archive.specs.Block.{block_of, whole_lines}
+use Rattle.archive.specs.Packing.{storable, contents, archive_of}
 use Rattle.archive.specs.Stream.{last_end, first_length}
 use Rattle.archive.specs.Claims.{HoldsLines, NoLineSplit, SameBytes, SameLines, OpensWhereFull}
-use Rattle.archive.proofs.Lines.{by_lines, ended_some, or_none_left, or_none_right, within_line, beyond_line, last_end_append, last_end_unended, last_end_line}
+use Rattle.archive.proofs.Lines.{by_lines, ended_some, within_line, beyond_line, last_end_append, last_end_unended, last_end_line}
 use Rattle.archive.proofs.Counting.{first_most}
 use Rattle.archive.proofs.Packing.{whole_line, whole_unended, storable_unended, first_leaves, first_none, first_contents, contents_none}
-use Rattle.archive.proofs.Settled.{first_capacity}
+use Rattle.archive.proofs.Settled.{first_capacity, block_length}
 
 -- ── along the blocks ──
 first_some : (t : List ℕ) → 0 < length t → storable t ≡ true → 0 < first_length t
@@ -102,6 +103,14 @@ same_lines =
     let first = take (first_length t) t in
     let behind = drop (first_length t) t in
     ap (λ l. lines_of first ++ l) known ∙ sym (whole_lines_lem first (whole_first t) behind) ∙ ap lines_of (take-append-drop (first_length t) t))
+
+pub archive_length : (text : List ℕ) → storable text ≡ true → length (archive_of text) ≡ 512 * length (contents text)
+unfolding archive_of
+archive_length =
+    by_blocks (λ t blocks. length (flat_map block_of blocks) ≡ 512 * length blocks) refl
+    (λ t s some known.
+    let first = take (first_length t) t in
+    omega (arith, known, length-append (block_of first) (flat_map block_of (contents (drop (first_length t) t))), block_length first (first_holds t some).fits))
 
 -- Each block takes a byte or more.
 pub blocks_few : (text : List ℕ) → storable text ≡ true → length (contents text) ≤ length text
@@ -199,8 +208,8 @@ no_ends : (l : List ℕ) → ended l ≡ false → line_ends l ≡ 0
 unfolding ended
 no_ends [] e = refl
 no_ends (byte ∷ l) e =
-    let first : one_end byte ≡ 0 = rw (or_none_left (eqb byte 10) (ended l) e) refl in
-    omega (arith, sum_by-cons one_end byte l, first, no_ends l (or_none_right (eqb byte 10) (ended l) e))
+    let first : one_end byte ≡ 0 = rw (or_left (eqb byte 10) (ended l) e) refl in
+    omega (arith, sum_by-cons one_end byte l, first, no_ends l (or_right (eqb byte 10) (ended l) e))
 
 lines_counted_line :
     (line rest : List ℕ) → ended line ≡ false → (whole_lines rest ≡ true → line_ends rest ≡ length (lines_of rest))

@@ -1,24 +1,24 @@
 -- What `pack_held` leaves: the parts of `held_packed` from what `pack` has packed.
-use Prim.Native.Nat.{ℕ, zero, suc, ◌+◌, ◌-◌, ◌*◌, ◌/◌, ◌≤◌, min}
+use Prim.Native.Nat.{ℕ, zero, suc, ◌+◌, ◌-◌, ◌/◌, ◌≤◌, min}
 use native.Mathlib.Omega.{arith}
 use mathlib.Core.Bool.{Bool}
 use mathlib.Core.List.{List}
 use mathlib.Core.Path.{◌≡◌, sym, ap, ◌∙◌}
 use lib.ListN.{length, take, drop, length-drop, length-take}
-use lib.Seq.{length-take-le, take-take, take_at}
+use lib.Seq.{length-take-le, take-take}
 use Rattle.std.specs.List.{copy_within}
 use Rattle.std.proofs.lemmas.List.{take_min, drop-take}
 use Rattle.basis.proofs.Choice.{cond_cases}
 use Rattle.text.specs.LineEnd.{lines_of}
 use Rattle.buffer.specs.Overwrite.{overwrite}
-use Rattle.buffer.proofs.Overwrite.{overwrite_start, copied_to_front}
+use Rattle.buffer.proofs.Overwrite.{stands_first, copied_to_front}
 use Rattle.archive.specs.declared.Packed.{Packed}
 use Rattle.archive.specs.Packing.{contents, archive_of}
 use Rattle.archive.specs.Stream.{first_length, settled, packed_length, packed_of, unpacked_of, PackedInto, packed_into, HeldPacked, held_packed, PackIsStep}
 use Rattle.archive.proofs.Counting.{first_most}
 use Rattle.archive.proofs.Packing.{storable_whole}
-use Rattle.archive.proofs.Settled.{packed_storable, packed_few, packed_length_of}
-use Rattle.archive.proofs.Claims.{line_ends, lines_counted}
+use Rattle.archive.proofs.Settled.{packed_storable, packed_few}
+use Rattle.archive.proofs.Claims.{archive_length, line_ends, lines_counted}
 
 pub packed_most : (most : ℕ) (complete : Bool) (bytes : List ℕ) → packed_length most complete bytes ≤ length bytes
 unfolding packed_length
@@ -84,10 +84,6 @@ module _
       })
 
 -- ── a step of a run ──
--- A text that fits stands first.
-stands_first : (buffer text : List ℕ) (n : ℕ) → n ≡ length text → length text ≤ length buffer → take n (overwrite buffer 0 text) ≡ text
-stands_first buffer text n is fits = ap (take n) (overwrite_start buffer text fits) ∙ take_at text (drop (length text) buffer) n (sym is)
-
 pub pack_is_step : PackIsStep
 unfolding held_packed
 pack_is_step complete input held output within =
@@ -97,10 +93,10 @@ pack_is_step complete input held output within =
     let rest = unpacked_of most complete bytes in
     let size : length rest ≡ held - length text =
     omega (arith, length-drop (packed_length most complete bytes) bytes, length-take held input, packed_size most complete bytes, within) in
-    let blocks = packed_length_of most complete bytes in
+    let blocks = archive_length text (packed_storable most complete bytes) in
     record {
-      rest = stands_first input rest (held - length text) (sym size) (omega (arith, size, within));
-      blocks = stands_first output (archive_of text) (512 * length (contents text)) (sym blocks) (omega (arith, blocks, packed_few most complete bytes));
+      rest = ap (λ n. take n (overwrite input 0 rest)) (sym size) ∙ stands_first input rest (omega (arith, size, within));
+      blocks = ap (λ n. take n (overwrite output 0 (archive_of text))) (sym blocks) ∙ stands_first output (archive_of text) (omega (arith, blocks, packed_few most complete bytes));
     }
 
 -- ── for callers ──

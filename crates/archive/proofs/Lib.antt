@@ -1,5 +1,5 @@
 -- Laws along the lines of a text (Lines, Packing) and along its blocks (Counting, Settled, Placed, Storing); of one block (BlockParts);
--- the claims (Claims, BlockClaims, WrittenClaims, Stream) and the figures.
+-- of the bytes at hand (Held, Unpacking); the claims (Claims, BlockClaims, WrittenClaims, Stream) and the figures.
 pub mod Lines
 pub mod Packing
 pub mod Counting

@@ -3,7 +3,7 @@ use Prim.Native.Nat.{ℕ, zero, suc, ◌+◌, ◌≤◌, ◌<◌, min}
 use native.Mathlib.Nat.{min_comm}
 use native.Mathlib.Numerals.{add-one}
 use native.Mathlib.Omega.{arith}
-use mathlib.Core.Bool.{Bool, true, false, false≢true, cond, ◌||◌, or-true, or-false}
+use mathlib.Core.Bool.{true, false, false≢true, cond, ◌||◌, or-true, or-false}
 use mathlib.Core.List.{List, [], ◌∷◌, ◌++◌}
 use mathlib.Core.Path.{◌≡◌, refl, sym, ap, ◌∙◌}
 use lib.ListN.{length, take, drop, get_or, length-append, take-append-drop}
@@ -15,7 +15,7 @@ use Rattle.std.proofs.lemmas.List.{take-append-le, take_min}
 use Rattle.memchr.specs.Find.{IsLastByte, Nowhere, Passes, is_byte}
 use Rattle.basis.proofs.Choice.{cond_cases}
 use Rattle.text.specs.LineEnd.{ended}
-use Rattle.text.proofs.LineEnd.{ended_append, ended_cases, line_cases}
+use Rattle.text.proofs.LineEnd.{ended_append, unended_take, ended_cases, line_cases}
 use Rattle.archive.specs.Stream.{last_end, first_length}
 
 -- ── by lines ──
@@ -34,17 +34,6 @@ by_lines P none unended line l = go (length l + 1) l (omega arith)
         line_cases (λ m. length m < suc k → P m)
         (λ first rest f short. line first rest f (go k rest (omega (arith, short, length-append first (10 ∷ rest))))) (byte ∷ l) e h)
         (λ e. unended (byte ∷ l) (omega arith) e)
-
-pub or_none_left : (a b : Bool) → (a || b) ≡ false → a ≡ false
-or_none_left false b e = refl
-or_none_left true b e = e
-
-pub or_none_right : (a b : Bool) → (a || b) ≡ false → b ≡ false
-or_none_right false b e = e
-or_none_right true b e = absurd (false≢true (sym e))
-
-pub unended_take : (l : List ℕ) (n : ℕ) → ended l ≡ false → ended (take n l) ≡ false
-unended_take l n e = or_none_left (ended (take n l)) (ended (drop n l)) (sym (ended_append (take n l) (drop n l)) ∙ ap ended (take-append-drop n l) ∙ e)
 
 -- ── the last end ──
 pub last_end_unended : (l : List ℕ) → ended l ≡ false → last_end l ≡ 0

@@ -12,20 +12,20 @@ use lib.Seq.{take-append-add, drop-append-add, get_or-append_seam, take-nil, dro
 use Rattle.std.proofs.lemmas.List.{get_or-append-add}
 use borrow.Author.Tests.{eq-eqb, ne_eqb, le-leb, lt-leb}
 use Rattle.std.specs.List.{list_all}
-use Rattle.basis.proofs.Choice.{and_left}
+use Rattle.basis.proofs.Choice.{and_left, or_right}
 use Rattle.text.specs.LineEnd.{ended, lines_of}
-use Rattle.text.proofs.LineEnd.{lines_of_line, ended_cases, line_cases}
+use Rattle.text.proofs.LineEnd.{unended_take, lines_of_line, ended_cases, line_cases}
 use Rattle.archive.specs.Block.{whole_lines}
 use Rattle.archive.specs.Packing.{ended_lines, storable, packed_behind, packed, contents, archive_of}
 use Rattle.archive.specs.Stream.{last_end, first_length}
-use Rattle.archive.proofs.Lines.{by_lines, or_none_right, last_end_unended, unended_take, within_line, beyond_line}
+use Rattle.archive.proofs.Lines.{by_lines, last_end_unended, within_line, beyond_line}
 
 -- ── whole lines ──
 unended_get : (l : List ℕ) (i : ℕ) → ended l ≡ false → get_or l i 0 ≡ 10 → ⊥
 unfolding ended
 unended_get [] i e is = omega (arith, is)
 unended_get (byte ∷ l) zero e is = false≢true (sym (rw (eq-eqb byte 10 is) at e))
-unended_get (byte ∷ l) (suc i) e is = unended_get l i (or_none_right (eqb byte 10) (ended l) e) is
+unended_get (byte ∷ l) (suc i) e is = unended_get l i (or_right (eqb byte 10) (ended l) e) is
 
 pub whole_unended : (l : List ℕ) → 0 < length l → ended l ≡ false → whole_lines l ≡ false
 unfolding whole_lines

@@ -15,7 +15,8 @@ use Rattle.archive.specs.Packing.{contents, archive_of}
 use Rattle.archive.specs.Stream.{first_length, settled, packed_length, packed_of, packed_into}
 use Rattle.archive.proofs.Counting.{first_most}
 use Rattle.archive.proofs.Packing.{contents_none, archive_none}
-use Rattle.archive.proofs.Settled.{part_contents, packed_storable, packed_more, packed_few, packed_length_of, block_length, first_short}
+use Rattle.archive.proofs.Claims.{archive_length}
+use Rattle.archive.proofs.Settled.{part_contents, packed_storable, packed_more, packed_few, block_length, first_short}
 
 -- Of a text, `taken` bytes are in `blocks` blocks, which stand in the buffer, and there is room for `left` more.
 pub record Placed (text : List ℕ) (complete : Bool) (before out : List ℕ) (left taken blocks : ℕ) : Type 0 where
@@ -77,7 +78,7 @@ module _ {text : List ℕ} {complete : Bool} {before out : List ℕ} {left taken
       let size : length block ≡ 512 = block_length (take first rest) (first_short rest) in
       let place : 512 * (blocks + 1) ≡ 512 * blocks + length block = omega (arith, size) in
       let fits : 512 * blocks + (length block + length others) ≤ length out =
-      omega (arith, size, p.size, p.room, packed_length_of left complete more, packed_few left complete more) in
+      omega (arith, size, p.size, p.room, archive_length (packed_of left complete more) (packed_storable left complete more), packed_few left complete more) in
       rw place (overwrite_joins out (512 * blocks) block others fits) ∙ rw archive_is at p.written
 
   pub placed_first : Placed text complete before (overwrite out (512 * blocks) (block_of (take first rest))) left (taken + first) (blocks + 1)

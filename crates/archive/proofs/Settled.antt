@@ -1,5 +1,5 @@
 -- Laws of what is packed of the bytes at hand.
-use Prim.Native.Nat.{ℕ, zero, suc, ◌+◌, ◌-◌, ◌*◌, ◌≤◌}
+use Prim.Native.Nat.{ℕ, zero, suc, ◌+◌, ◌-◌, ◌≤◌}
 use native.Mathlib.Decide.{dec_le, ℕ_discrete}
 use native.Mathlib.Nat.{zero-add}
 use native.Mathlib.Omega.{arith}
@@ -9,13 +9,14 @@ use mathlib.Core.Path.{◌≡◌, refl, sym, ap, ◌∙◌}
 use lib.ListN.{length, length-replicate, take, drop, length-append, length-take}
 use lib.Seq.{take-add, take-length, take-take}
 use Rattle.std.proofs.lemmas.List.{take_all, drop-take}
-use Rattle.std.specs.Prelude.{flat_map, replicate}
+use Rattle.std.specs.Prelude.{replicate}
 use Rattle.text.specs.LineEnd.{ended}
 use Rattle.basis.proofs.Choice.{cond_cases}
 use Rattle.archive.specs.Block.{two_bytes, block_of}
-use Rattle.archive.specs.Packing.{storable, contents, archive_of}
+use Rattle.archive.specs.Packing.{storable, contents}
 use Rattle.archive.specs.Stream.{last_end, first_length, settled, packed_length, packed_of}
-use Rattle.archive.proofs.Lines.{last_end_most, last_end_unended_behind, unended_take}
+use Rattle.text.proofs.LineEnd.{unended_take}
+use Rattle.archive.proofs.Lines.{last_end_most, last_end_unended_behind}
 use Rattle.archive.proofs.Packing.{storable_none, first_leaves, first_contents, contents_none}
 use Rattle.archive.proofs.Counting.{first_most}
 
@@ -113,7 +114,7 @@ packed_storable (suc most) complete bytes =
     (λ known some. part_storable bytes (packed_length most complete (drop (first_length bytes) bytes)) behind)
 
 -- The blocks of what is packed: none; or the first block, and those behind it.
-pub packed_blocks :
+packed_blocks :
     (most : ℕ) (complete : Bool) (bytes : List ℕ) (P : List (List ℕ) → Type 0) → P []
     → ((first_length bytes ≡ 0 → ⊥) → P (take (first_length bytes) bytes ∷ contents (packed_of most complete (drop (first_length bytes) bytes))))
     → P (contents (packed_of (suc most) complete bytes))
@@ -142,20 +143,3 @@ first_capacity bytes = omega (arith, last_end_most (take 508 bytes), length-take
 
 pub first_short : (bytes : List ℕ) → length (take (first_length bytes) bytes) ≤ 508
 first_short bytes = omega (arith, length-take (first_length bytes) bytes, first_capacity bytes)
-
-pub packed_length_of :
-    (most : ℕ) (complete : Bool) (bytes : List ℕ)
-    → length (archive_of (packed_of most complete bytes)) ≡ 512 * length (contents (packed_of most complete bytes))
-unfolding packed_length archive_of
-packed_length_of zero complete bytes = rw contents_none refl
-packed_length_of (suc most) complete bytes =
-    let behind = contents (packed_of most complete (drop (first_length bytes) bytes)) in
-    let first = take (first_length bytes) bytes in
-    packed_blocks most complete bytes (λ b. length (flat_map block_of b) ≡ 512 * length b) refl
-    (λ _.
-    omega (
-      arith,
-      length-append (block_of first) (flat_map block_of behind),
-      block_length first (first_short bytes),
-      packed_length_of most complete (drop (first_length bytes) bytes),
-    ))

@@ -13,7 +13,7 @@ use Rattle.std.proofs.lemmas.List.{take-append-le, drop-append-le}
 use Rattle.text.specs.LineEnd.{ended}
 use Rattle.archive.specs.Block.{block_of}
 use Rattle.archive.specs.Packing.{storable, archive_of}
-use Rattle.archive.specs.Stream.{last_end, first_length, settled, packed_length, packed_of, unpacked_of, Run, stops, gives_up, reads, packs, finishes, RunWritesArchive, WholePacked, PackedUpToBadLine, NothingTaken, PackedIsStorable}
+use Rattle.archive.specs.Stream.{last_end, first_length, settled, packed_length, packed_of, unpacked_of, Run, stops, ends_early, reads, packs, finishes, RunWritesArchive, WholePacked, PackedUpToBadLine, NothingTaken, PackedIsStorable}
 use Rattle.archive.proofs.Lines.{ended_some}
 use Rattle.archive.proofs.Counting.{first_most}
 use Rattle.archive.proofs.Packing.{archive_none}
@@ -125,7 +125,7 @@ module _ (complete : Bool) (held input written rest : List ℕ) (same : Unchange
 run_writes : {held input written rest : List ℕ} → Run held input written rest
     → written ++ archive_from (length rest) rest ≡ archive_from (length (held ++ input)) (held ++ input)
 run_writes (stops {held}) = ap (λ t. archive_from (length t) t) (sym (append-nil held))
-run_writes (gives_up {held} {input} more none) =
+run_writes (ends_early {held} {input} more none) =
     let whole = held ++ input in
     let known : settled false held ≡ true = le-leb 508 (length held) more in
     let nothing : first_length whole ≡ 0 = first_settled held input known ∙ none in

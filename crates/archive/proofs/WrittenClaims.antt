@@ -6,7 +6,7 @@ use mathlib.Core.Bool.{Bool, true, false, cond, ◌&&◌}
 use mathlib.Core.List.{List, [], ◌∷◌, ◌++◌, append_assoc}
 use mathlib.Core.Path.{◌≡◌, refl, sym, ap, ◌∙◌}
 use lib.Dec.{leb}
-use lib.ListN.{length, take, drop, get_or, set, length-append}
+use lib.ListN.{length, take, drop, get_or, set}
 use lib.Seq.{take-set-lt, drop-append-add, take_at}
 use borrow.Author.Tests.{le-leb, leb-true}
 use Rattle.std.specs.Prelude.{All, flat_map, replicate, sum, Result, Ok, Err}
@@ -17,14 +17,14 @@ use Rattle.std.specs.List.{concat}
 use Rattle.text.specs.LineEnd.{lines_of}
 use Rattle.basis.proofs.Choice.{and_left, and_right, cond_cases}
 use Rattle.buffer.specs.Overwrite.{overwrite}
-use Rattle.buffer.proofs.Overwrite.{overwrite_start, overwrite_none}
+use Rattle.buffer.proofs.Overwrite.{overwrite_start, overwrite_behind, overwrite_none}
 use Rattle.archive.specs.Block.{two_bytes, block_of, valid, used_part, read_block}
 use Rattle.archive.specs.Packing.{storable, contents, archive_of}
 use Rattle.archive.specs.Stream.{first_length}
 use Rattle.archive.specs.Entry.{Stored, stored, block_count}
-use Rattle.archive.specs.Claims.{Bytes, HoldsLines, IsStored, block_at, WrittenAtPlace, WrittenReadsBack, ReadBackIsText, OneBlockLost, SameCount, NothingWritten, EmptyTextTakesNone, OnlyTheseRefusals}
+use Rattle.archive.specs.Claims.{Bytes, HoldsLines, IsStored, block_at, WrittenAtPlace, WrittenReadsBack, ReadBackIsText, OneBlockLost, BytesBehindStay, SameCount, NothingWritten, EmptyTextTakesNone, OnlyTheseRefusals}
 use Rattle.archive.proofs.Settled.{block_length}
-use Rattle.archive.proofs.Claims.{by_blocks, no_line_split, same_bytes, same_lines}
+use Rattle.archive.proofs.Claims.{by_blocks, no_line_split, same_bytes, same_lines, archive_length}
 use Rattle.archive.proofs.Packing.{storable_none, contents_none, archive_none}
 use Rattle.archive.proofs.BlockClaims.{less_tightly_read, changed_byte_refused}
 
@@ -54,20 +54,6 @@ nothing_written text buffer no_way =
     (ap (λ p. p.answer) is, ap (λ p. p.buffer) is)
 
 -- ── its blocks ──
-blocks_length : (blocks : List (List ℕ)) → All HoldsLines blocks → length (flat_map block_of blocks) ≡ 512 * length blocks
-blocks_length [] holds = refl
-blocks_length (lines ∷ blocks) holds =
-    omega (
-      arith,
-      length-append (block_of lines) (flat_map block_of blocks),
-      block_length lines (All-head HoldsLines lines blocks holds).fits,
-      blocks_length blocks (All-tail HoldsLines lines blocks holds),
-    )
-
-archive_length : (text : List ℕ) → storable text ≡ true → length (archive_of text) ≡ 512 * length (contents text)
-unfolding archive_of
-archive_length text s = blocks_length (contents text) (no_line_split text s)
-
 block_at_place :
     (blocks : List (List ℕ)) → All HoldsLines blocks → (behind : List ℕ) (k : ℕ) → k < length blocks
     → block_at k (flat_map block_of blocks ++ behind) ≡ block_of (get_or blocks k [])
@@ -109,6 +95,17 @@ read_back_is_text text buffer s yields size back =
     λ k few. ap (λ r. result_unwrap_or r []) (sym (back k few) ∙ block_reads_back text buffer s k (omega (arith, size, few))) in
     let all : yields ≡ contents text = ext_get_or [] yields (contents text) size one in
     (ap concat all ∙ same_bytes text s.good, ap (flat_map lines_of) all ∙ same_lines text s.good)
+
+pub bytes_behind_stay : BytesBehindStay
+unfolding stored
+bytes_behind_stay text buffer =
+    let count = 512 * length (contents text) in
+    let room = leb (length (contents text)) (length buffer / 512) in
+    cond_cases (λ (p : Stored). drop count p.buffer ≡ drop count buffer) (storable text && room)
+    (λ both.
+    let size : 0 + length (archive_of text) ≡ count = omega (arith, archive_length text (and_left (storable text) room both)) in
+    rw size at (overwrite_behind buffer 0 (archive_of text)))
+    (λ _. refl)
 
 -- ── no block, and refusals ──
 pub empty_text_takes_none : EmptyTextTakesNone

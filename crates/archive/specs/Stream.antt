@@ -82,7 +82,7 @@ NothingTaken =
 -- stored it may end before it has read all.
 pub data Run : List ℕ → List ℕ → List ℕ → List ℕ → Type 0 where
   stops : {held : List ℕ} → Run held [] [] held
-  gives_up : {held input : List ℕ} → 508 ≤ length held → first_length held ≡ 0 → Run held input [] held
+  ends_early : {held input : List ℕ} → 508 ≤ length held → first_length held ≡ 0 → Run held input [] held
   reads : {held input written rest : List ℕ} (piece : List ℕ) → Run (held ++ piece) input written rest → Run held (piece ++ input) written rest
   packs : {held input written rest : List ℕ} (most : ℕ) → Run (unpacked_of most false held) input written rest →
       Run held input (archive_of (packed_of most false held) ++ written) rest

@@ -61,7 +61,7 @@ fn is_valid(block: &[u8]) -> bool
     }
     let (_, rest) = block.split_at(LINES);
     let (lines, remainder) = rest.split_at(count);
-    // All 512 bytes, less those of the sum: a length that is summed without a remainder.
+    // All 512 bytes, less those of the sum: no bytes are left over where many are summed at once.
     let others = sum_of(block).wrapping_sub(sum_of(&block[SUM..LINES]));
     (number_at(block, SUM) == others) & are_zero(remainder) & whole_lines(lines)
 }

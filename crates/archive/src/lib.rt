@@ -64,7 +64,8 @@ pub fn count_blocks(text: &[u8]) -> Result<usize, Refusal>
     Ok(count)
 }
 
-// Writes these blocks, one behind the other from the first byte of `out` on, and returns their number. Nothing where they do not fit.
+// Writes these blocks, one behind the other from the first byte of `out` on, and returns their number. Where they do not fit, or the text
+// cannot be stored, nothing is written.
 pub fn write_blocks(text: &[u8], out: &mut [u8]) -> Result<usize, Refusal>
     ensures { record { answer = numbered result; buffer = out.new } ≡ stored text.now out.old }
 {
@@ -202,7 +203,7 @@ fn first_length(text: &[u8]) -> usize
     last_end(&text[..text.len().min(CAPACITY)])
 }
 
-// How many bytes stand up to and including the last byte 10. One copy for both callers, which is quicker than one in each.
+// How many bytes stand up to and including the last byte 10. One copy for both callers of `first_length`, which is quicker than one in each.
 #[inline(never)]
 fn last_end(bytes: &[u8]) -> usize
     ensures { result ≡ last_end bytes.now }

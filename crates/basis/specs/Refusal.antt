@@ -3,7 +3,7 @@ use Rattle.std.specs.Prelude.{ℕ, Bool, false, cond, List, [], ◌∷◌, ◌�
 use Rattle.basis.specs.declared.Refusal.{Refusal}
 use Rattle.basis.specs.declared.Refusal.TheVariants.{NotALine, OutOfRange, WallTooThin, AreaTooSmall, UnfitForUse, WallTooHigh, FloorLoadTooGreat, BuildingTooHigh, SpanTooLong, BearingTooShallow, StrengthTooLow, WallTooSlender, LoadAboveResistance, CellarWallTooThin, CellarWallTooHigh, FillTooHigh, GroundLoadTooGreat, CellarLoadAboveResistance, DeadLoadBelowNeed, BufferTooShort, DeadLoadBelowMinimum, BlockDamaged, TextNotStored}
 
--- The number of each refusal: document 01's table, then of document 02 21 of #106, and 23 and 24 of #107.
+-- The number of each refusal: document 01's table, then document 02's: 21 of #106, 23 and 24 of #107.
 abbrev pub number_of : Refusal → ℕ
 number_of NotALine = 1
 number_of OutOfRange = 2

@@ -69,6 +69,10 @@ module _ (l : List ℕ) (at : ℕ) (t : List ℕ) where
 pub overwrite_start : (l t : List ℕ) → length t ≤ length l → overwrite l 0 t ≡ t ++ drop (length t) l
 overwrite_start l t h = rw (overwrite_fits l 0 t (omega arith), zero-add)
 
+-- A text that fits stands first then.
+pub stands_first : (l t : List ℕ) → length t ≤ length l → take (length t) (overwrite l 0 t) ≡ t
+stands_first l t fits = rw (overwrite_start l t fits, take-append_seam)
+
 -- ── two texts, one behind the other ──
 overwrite_front : (a m n b t : List ℕ) → length m ≡ length t → overwrite (a ++ (m ++ n) ++ b) (length a) t ≡ a ++ (t ++ n) ++ b
 overwrite_front a m n b t e = simp append_assoc (simp append_assoc at (overwrite_parts a m (n ++ b) t e))

@@ -1,7 +1,6 @@
 -- A call of `answer` in plain numbers: what its steps give is what `answered` says.
 use Prim.Native.Nat.{ℕ, ◌+◌, ◌-◌, ◌≤◌, min}
-use native.Mathlib.Nat.{min-le_right, zero-add}
-use borrow.Author.Tests.{le-leb}
+use native.Mathlib.Nat.{min-le_right}
 use native.Mathlib.Omega.{arith}
 use mathlib.Core.Bool.{cond}
 use mathlib.Core.List.{List}

@@ -1,12 +1,10 @@
 -- The claims on runs and on the calls that are their steps.
-use Prim.Native.Nat.{ℕ, ◌≤◌}
+use Prim.Native.Nat.{ℕ}
 use native.Mathlib.Nat.{le_trans}
 use mathlib.Core.List.{List, [], ◌∷◌, ◌++◌, append_assoc, append-nil}
 use mathlib.Core.Path.{◌≡◌, refl, sym}
-use lib.ListN.{length, take}
-use lib.Seq.{take-append_seam}
-use Rattle.buffer.specs.Overwrite.{overwrite}
-use Rattle.buffer.proofs.Overwrite.{overwrite_start}
+use lib.ListN.{take}
+use Rattle.buffer.proofs.Overwrite.{stands_first}
 use Rattle.report.proofs.Written.{written_count}
 use Rattle.lines.specs.Output.{schedule_result, line_text, output_of}
 use Rattle.lines.specs.Answer.{unanswered_of, room_for, answered, answered_last}
@@ -32,10 +30,6 @@ run_output (answers {held = held} {input = input} most run) t =
 
 pub run_prints_output : RunPrintsOutput
 run_prints_output input text rest run e = rw (output_last rest e) (sym (rw (append-nil input, append-nil rest) at (run_output run [])))
-
--- A text put over the first bytes of a buffer stands first.
-stands_first : (buffer text : List ℕ) → length text ≤ length buffer → take (length text) (overwrite buffer 0 text) ≡ text
-stands_first buffer text fits = rw (overwrite_start buffer text fits, take-append_seam)
 
 pub answer_is_step : AnswerIsStep
 unfolding answered

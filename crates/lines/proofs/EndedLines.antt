@@ -8,9 +8,9 @@ use mathlib.Core.List.{List, [], ◌∷◌, ◌++◌, append_assoc}
 use mathlib.Core.Path.{◌≡◌, refl, sym, ap, ◌∙◌}
 use lib.ListN.{length, take, drop, length-append, length-take, length-drop, take-append-drop}
 use lib.Seq.{take_all, take-length, length-take-le, take-append-add, drop-append-add}
-use Rattle.basis.proofs.Choice.{cond_cases, or_left}
+use Rattle.basis.proofs.Choice.{cond_cases}
 use Rattle.text.specs.LineEnd.{ended, line_length}
-use Rattle.text.proofs.LineEnd.{ended_append, ended_line, line_length_line, line_cases, ended_cases, line_length_ended, Whole, whole_none, whole_line}
+use Rattle.text.proofs.LineEnd.{unended_take, ended_line, line_length_line, line_cases, ended_cases, line_length_ended, Whole, whole_none, whole_line}
 use Rattle.lines.specs.Output.{output_of}
 use Rattle.lines.specs.Answer.{ended_length, answered_of, unanswered_of, held_of}
 use Rattle.lines.specs.Claims.{AnswerTakesLines, LittleIsHeld}
@@ -88,18 +88,15 @@ little_is_held bytes e = rw (e, length-take) (omega arith)
 pub held_fewer : (bytes : List ℕ) → length (held_of bytes) ≤ length bytes
 held_fewer bytes = held_cases (λ l. length l ≤ length bytes) bytes (λ _. omega arith) (λ _. rw length-take (omega arith))
 
-cut_unended : (bytes : List ℕ) → ended bytes ≡ false → ended (take 201 bytes) ≡ false
-cut_unended bytes e = or_left _ _ (sym (ended_append (take 201 bytes) (drop 201 bytes)) ∙ ap ended (take-append-drop 201 bytes) ∙ e)
-
 pub held_kept : (bytes : List ℕ) → ended (held_of bytes) ≡ ended bytes
-held_kept bytes = held_cases (λ l. ended l ≡ ended bytes) bytes (λ _. refl) (λ e. cut_unended bytes e ∙ sym e)
+held_kept bytes = held_cases (λ l. ended l ≡ ended bytes) bytes (λ _. refl) (λ e. unended_take bytes 201 e ∙ sym e)
 
 -- Holding less changes no output: a line is cut only where it is over 200 bytes and has no end yet, and still is so then.
 output_cut : (bytes t : List ℕ) → ended bytes ≡ false → output_of (take 201 bytes ++ t) ≡ output_of (bytes ++ t)
 output_cut bytes t e =
     elim (dec_le (length bytes) 201) [
       | yes few ↦ rw (take_all 201 bytes few)
-      | no many ↦ output_long (take 201 bytes) bytes t (cut_unended bytes e) e (omega (arith, length-take-le 201 bytes (omega arith))) (omega arith)
+      | no many ↦ output_long (take 201 bytes) bytes t (unended_take bytes 201 e) e (omega (arith, length-take-le 201 bytes (omega arith))) (omega arith)
     ]
 
 pub output_held : (bytes t : List ℕ) → output_of (held_of bytes ++ t) ≡ output_of (bytes ++ t)

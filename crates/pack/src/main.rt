@@ -2,7 +2,7 @@
 // it written.
 //
 // What each call packs, and that such calls make up the archive of the input, wherever it is cut into pieces, is proved in `archive`
-// (`IsStep`, `RunWritesArchive`); here it is proved that the program is safe and ends. That it calls so, and writes the blocks of each call,
+// (`PackIsStep`, `RunWritesArchive`); here it is proved that the program is safe and ends. That it calls so, and writes the blocks of each call,
 // is to be read here. No contract says what the system moves, so it is assumed that `read` puts the next bytes of the input first in the
 // buffer that it is lent and returns their number, that `write_all` hands on the bytes that it is lent, and that both return.
 #![tactic(auto)]

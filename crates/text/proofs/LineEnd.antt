@@ -8,7 +8,7 @@ use mathlib.Core.Bool.{Bool, true, false, false≢true, ◌||◌, or_assoc, or-t
 use mathlib.Core.List.{List, [], ◌∷◌, ◌++◌, append_assoc, append-nil}
 use mathlib.Core.Path.{◌≡◌, refl, sym, ap, ◌∙◌}
 use lib.Dec.{ltb}
-use lib.ListN.{length, take, drop, length-append, length-drop, drop_of_length-le}
+use lib.ListN.{length, take, drop, length-append, length-drop, drop_of_length-le, take-append-drop}
 use lib.Seq.{drop-length, take-append-add, take-append_seam, drop-append-add, drop-cons}
 use borrow.Author.Tests.{eq-eqb, ne_eqb, lt-ltb, le-ltb}
 use Rattle.std.proofs.Common.{Option, None, Some}
@@ -27,6 +27,11 @@ ended_cases P l is isnt = by (ended l) refl
     by : (b : Bool) → ended l ≡ b → P
     by true e = is e
     by false e = isnt e
+
+pub unended_take : (l : List ℕ) (n : ℕ) → ended l ≡ false → ended (take n l) ≡ false
+unended_take l n e =
+    ended_cases (ended (take n l) ≡ false) (take n l)
+    (λ is. absurd (false≢true (sym e ∙ ap ended (sym (take-append-drop n l)) ∙ ended_append (take n l) (drop n l) ∙ rw is refl))) (λ isnt. isnt)
 
 -- ── no byte 10 ──
 pub line_length_append : (a b : List ℕ) → ended a ≡ false → line_length (a ++ b) ≡ length a + line_length b

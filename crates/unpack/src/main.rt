@@ -85,7 +85,8 @@ struct Input<'a> {
     ghost within: { held ≤ length buffer.now },
 }
 
-// Writes what one block yields, or tells that it is refused.
+// Writes what one block yields, or tells that it is refused. It is the block at which `archive::unpack` ended: one that is refused, or one for
+// which the output had no room.
 fn unpack_block<R: Print + Eprint>(
     rt: &R,
     block: &[u8],
