@@ -142,8 +142,8 @@ wallcheck_archived wallcheck_archive_count(const uint8_t *text, size_t len);
 wallcheck_archived wallcheck_archive_write(const uint8_t *text, size_t len, uint8_t *out, size_t out_len);
 
 /* How many bytes a block yields: its bytes from byte 4 on, whole lines. Refusal 23, and nothing is yielded: the length is
- * not 512, or count, sum or remainder is wrong, or there are used bytes and the last is not byte 10. The block without lines, 512
- * zeros, yields 0 bytes. */
+ * not 512, or count, sum or remainder is wrong, or there are used bytes and the last is not byte 10. The block without
+ * lines, 512 zeros, yields 0 bytes. */
 wallcheck_archived wallcheck_archive_read(const uint8_t *block, size_t len);
 
 #ifdef __cplusplus
