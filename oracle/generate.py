@@ -16,8 +16,8 @@ import sys
 from itertools import chain, islice
 
 from cases import read_lines
-from walls import (A, CELLAR_RANGES, CellarWall, K, STOREY_RANGES, StoreyWall, WIND_RANGE, check, factor_r,
-                   greatest_height, line_of, minimum_load, need, row_of)
+from walls import (A, CELLAR_RANGES, CellarWall, K, STOREY_RANGES, StoreyWall, WIND_RANGE, check, exact_load, factor_r,
+                   general_load, greatest_height, line_of, minimum_load, need, row_of)
 
 LARGEST = 999999999
 S, C = A._replace, K._replace
@@ -132,8 +132,8 @@ def slenderness_edges():
 
 
 def load_edges():
-    """G against Q on both sides of q = 3000: where 1.4(G + Q) and 1.35G + 1.5Q meet, at G = 2Q, and small loads, which show
-    each rounding."""
+    """G against Q on both sides of q = 3000: where 1.4(G + Q) and 1.35G + 1.5Q meet, at G = 2Q; and small loads, which have
+    each fraction of both formulas (#108)."""
     for q in (2999, 3000, 3001):
         for Q in (1, 10, 1000, 30000, 5000000):
             for G in near(2 * Q):
@@ -142,6 +142,13 @@ def load_edges():
         for Q in range(13):
             for G in range(1, 25):
                 yield S(G=G, Q=Q, q=q)
+
+
+def cellar_load_edges():
+    """Small loads, which have each fraction of 1.35G + 1.5Q (#108), where the need is 0."""
+    for Q in range(13):
+        for G in range(1, 25):
+            yield C(e=0, G=G, Q=Q)
 
 
 def fill_edges():
@@ -157,14 +164,22 @@ def fill_edges():
                 yield wall._replace(G=G)
 
 
+def load_before_rounding(wall):
+    return exact_load(wall.G, wall.Q, wall.q) if isinstance(wall, StoreyWall) else general_load(wall.G, wall.Q)
+
+
 def with_load(wall, N):
-    """Records whose load is N: one with hardly any imposed load, and one with hardly any dead load, where for q ≤ 3000 the
-    load of a storey wall is 1.4(G + Q)."""
-    dead = (wall._replace(G=(100 * N - 150 * Q) // 135, Q=Q) for Q in range(20))
-    imposed = (wall._replace(G=G, Q=(100 * N - dead_factor * G) // imposed_factor)
+    """Records whose load is N, before it is rounded the least and the greatest of twenty and of forty (#108): with hardly
+    any imposed load, and with hardly any dead load, where for q ≤ 3000 the load of a storey wall is 1.4(G + Q)."""
+    below_half = 100 * N + 49
+    dead = (wall._replace(G=(below_half - 150 * Q) // 135, Q=Q) for Q in range(20))
+    imposed = (wall._replace(G=G, Q=(below_half - dead_factor * G) // imposed_factor)
                for G in range(1, 21) for dead_factor, imposed_factor in ((140, 140), (135, 150)))
     for records in (dead, imposed):
-        yield from islice((record for record in records if check(record).load == N > 0), 1)
+        found = [record for record in records if check(record).load == N > 0]
+        if found:
+            yield min(found, key=load_before_rounding)
+            yield max(found, key=load_before_rounding)
 
 
 def verdict_edges(walls):
@@ -194,7 +209,7 @@ def storey_edges():
     yield from load_edges()
     yield from slenderness_edges()
     yield from verdict_edges(STOREY_WALLS)
-    yield from verdict_edges(islice(random_storey_walls(Numbers(1)), 120))
+    yield from verdict_edges(islice(random_storey_walls(Numbers(1)), 60))
 
 
 def cellar_edges():
@@ -205,6 +220,7 @@ def cellar_edges():
             yield C(h=h, e=h, c=c)
             yield C(h=h, e=h, c=c, y=1)
     yield from fill_edges()
+    yield from cellar_load_edges()
     yield from verdict_edges(CELLAR_WALLS)
     numbers = Numbers(2)
     yield from verdict_edges(moderate_cellar(numbers) for _ in range(50))

@@ -182,8 +182,8 @@ def exact_load(G, Q, q):
 
 
 def rounded_load(exact):
-    """N: rounded up."""
-    return ceil(exact)
+    """#108: N is the exact load "to the nearest newton per metre, an exact half upwards"."""
+    return floor(exact + Fraction(1, 2))
 
 
 def storey_load(wall):

@@ -1,5 +1,5 @@
 -- Exact fractions of whole numbers, and where they are rounded.
--- A formula of document 01 stays a fraction until the one place where the document says "rounded up" or "rounded down".
+-- A formula stays a fraction until the one place where the documents say "rounded up", "rounded down" or "to the nearest".
 use Rattle.std.specs.Prelude.{ℕ, ◌+◌, ◌-◌, ◌*◌, ◌/◌, ◌≤◌, ◌<◌, cond, ◌≡◌, leb}
 
 infix 60 ◌÷◌
@@ -51,7 +51,7 @@ floor f = f.num / f.den
 unfoldable pub ceil : Fraction → ℕ
 ceil f = (f.num + (f.den - 1)) / f.den
 
--- Rounded to the nearest whole number, an exact half upwards.
+-- "to the nearest .., an exact half upwards"
 unfoldable pub nearest : Fraction → ℕ
 nearest f = floor ((2 * f.num + f.den) ÷ (2 * f.den))
 

@@ -144,9 +144,11 @@ pub fn ceil_div(dividend: u64, divisor: u64) -> u64
 // Loads with their factors are in hundredths of N/m.
 const LOAD_UNIT: u64 = 100;
 
-// A load in hundredths of N/m, rounded to N/m.
+const LOAD_HALF: u64 = 50;
+
+// A load in hundredths of N/m, rounded to N/m: one more where what is left is a half or above.
 pub fn rounded_load(hundredths: u64) -> u64
     ensures { result ≡ rounded_load (hundredths ÷ 100) }
 {
-    ceil_div(hundredths, LOAD_UNIT)
+    hundredths / LOAD_UNIT + hundredths % LOAD_UNIT / LOAD_HALF
 }

@@ -10,7 +10,7 @@ use Rattle.cellar.specs.Range.{in_range}
 use Rattle.cellar.specs.Load.{exact_load, load}
 use Rattle.cellar.proofs.Range.{in_ranges}
 
-exact_load_den : (w : CellarWall) → 0 < (exact_load w).den
+pub exact_load_den : (w : CellarWall) → 0 < (exact_load w).den
 unfolding exact_load
 exact_load_den w = omega arith
 

@@ -1,4 +1,4 @@
--- Document 01, "Cellar wall": "N as above", 1.35G + 1.5Q, rounded up. Document 02, #103, changes it for "Storey walls only".
+-- Document 01, "Cellar wall": "N as above", 1.35G + 1.5Q; document 02, #103, changes that for "Storey walls only". Rounded as #108 says, for "both kinds of wall".
 use Rattle.std.specs.Prelude.{ℕ}
 use Rattle.basis.specs.Fraction.{Fraction}
 use Rattle.basis.specs.Load.{factored_load, rounded_load}

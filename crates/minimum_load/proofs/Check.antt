@@ -15,22 +15,23 @@ use Rattle.basis.specs.Result.{refused_with, filled_with, Accepted}
 use Rattle.basis.specs.Check.{reported, result_of}
 use Rattle.basis.proofs.Check as AnyCheck
 use Rattle.basis.proofs.Choice.{cond_cases, and_left, and_right}
+use Rattle.basis.proofs.Load.{exceeds_by_less_than_half}
 use Rattle.basis.proofs.FirstRefusal.{first_or_none, first_or_some, none_first_of, NoneApplies-split}
 use Rattle.storey.specs.BucklingLength.{buckling_length}
 use Rattle.storey.specs.Limits.{limits_up_to_11, slenderness_limit, limits, too_slender}
-use Rattle.storey.specs.Load.{load}
+use Rattle.storey.specs.Load.{exact_load, load}
 use Rattle.storey.specs.Resistance.{resistance}
 use Rattle.storey.specs.Range as StoreyRange
 use Rattle.storey.specs.Check as StoreyCheck
 use Rattle.storey.proofs.Claims as StoreyClaims
-use Rattle.storey.proofs.Load.{load_most}
+use Rattle.storey.proofs.Load.{exact_load_den, load_is_rounded, load_grows, load_most}
 use Rattle.storey.proofs.Range.{in_ranges}
 use Rattle.storey.proofs.Resistance.{resistance_most}
 use Rattle.storey.specs.declared.StoreyWall.{StoreyWall}
 use Rattle.minimum_load.specs.declared.TopStoreyWall.{TopStoreyWall}
 use Rattle.minimum_load.specs.MinimumLoad.{minimum_load}
 use Rattle.minimum_load.specs.Check.{wind_range, in_range, second, parts, check}
-use Rattle.minimum_load.specs.Claims.{WindOutOfRange, RefusalPassedOn, NeedReported, AcceptedExactly, NeverRefusal1, ResultIsBounded}
+use Rattle.minimum_load.specs.Claims.{WindOutOfRange, RefusalPassedOn, NeedReported, AcceptedExactly, AcceptedExceedsByLessThanHalf, ReportedLoadGrows, NeverRefusal1, ResultIsBounded}
 use Rattle.minimum_load.proofs.MinimumLoad.{minimum_load_most}
 
 pub out_of_range : (w : TopStoreyWall) → in_range w ≡ false → check w ≡ refused_with 2
@@ -115,6 +116,18 @@ accepted_exactly w =
           let kept = ordinary.0 all.1 in
           exactly.1 (ranges_same w all.0 ∙ kept.0, kept.1, (le-ltb (resistance w.wall) (load w.wall) kept.2, (le-ltb w.wall.dead (minimum_load w) all.2, tt)))),
     )
+
+pub accepted_exceeds_by_less_than_half : AcceptedExceedsByLessThanHalf
+accepted_exceeds_by_less_than_half w accepted =
+    let all = (accepted_exactly w).0 accepted in
+    let covered = ((StoreyClaims.accepted_exactly w.wall).0 all.1).2 in
+    rw (need_reported w all.0 all.1)
+    (exceeds_by_less_than_half (exact_load w.wall) (load w.wall) (resistance w.wall) (exact_load_den w.wall) (load_is_rounded w.wall) covered)
+
+pub reported_load_grows : ReportedLoadGrows
+reported_load_grows first second dead imposed floorload passed none passed' none' =
+    rw (AnyCheck.reported_numbers (parts first) passed none, AnyCheck.reported_numbers (parts second) passed' none')
+    (load_grows first.wall second.wall dead imposed floorload)
 
 pub accepted_in_range : (w : TopStoreyWall) → Accepted (check w) → in_range w ≡ true
 accepted_in_range w accepted = ((AnyCheck.accepted_exactly (parts w) refl).0 accepted).0

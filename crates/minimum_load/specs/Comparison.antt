@@ -37,4 +37,4 @@ LighterStaysAccepted =
 abbrev pub LighterRefused : Type 0
 LighterRefused =
     (check (loaded example_a 780 6062 90000) ≡ filled_with 0 6062 134487 352425)
-    × (check (loaded example_a 780 6061 90000) ≡ filled_with 21 6062 134486 352425)
+    × (check (loaded example_a 780 6061 90000) ≡ filled_with 21 6062 134485 352425)

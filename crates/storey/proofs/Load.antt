@@ -25,7 +25,7 @@ simplified w = simplified_load w.dead w.imposed
 abbrev general : StoreyWall → Fraction
 general w = general_load w.dead w.imposed
 
-exact_load_den : (w : StoreyWall) → 0 < (exact_load w).den
+pub exact_load_den : (w : StoreyWall) → 0 < (exact_load w).den
 unfolding exact_load load_of
 exact_load_den w =
     cond_cases (λ (f : Fraction). 0 < f.den) (leb w.floorload 3000)

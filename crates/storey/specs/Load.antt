@@ -1,4 +1,4 @@
--- Document 01, "Storey wall": "Load N is 1.35G + 1.5Q, rounded up." Document 02, #103, for q ≤ 3000: the smaller of that and 1.4(G + Q).
+-- Document 01, "Storey wall": "Load N is 1.35G + 1.5Q"; document 02, #103, for q ≤ 3000: the smaller of that and 1.4(G + Q). Rounded as #108 says.
 use Rattle.std.specs.Prelude.{ℕ, ◌+◌, ◌*◌, cond, leb}
 use Rattle.basis.specs.Fraction.{Fraction, ◌÷◌, smaller}
 use Rattle.basis.specs.Load.{factored_load, rounded_load}
@@ -19,6 +19,6 @@ load_of G Q q = cond (leb q 3000) (smaller (simplified_load G Q) (general_load G
 unfoldable pub exact_load : StoreyWall → Fraction
 exact_load w = load_of w.dead w.imposed w.floorload
 
--- "rounded up as before"
+-- #108: rounded "after the smaller is taken".
 unfoldable pub load : StoreyWall → ℕ
 load w = rounded_load (exact_load w)

@@ -9,4 +9,5 @@ pub mod TwoWayFloors
 pub mod CalciumSilicate
 pub mod SimplifiedLoad
 pub mod FillAboveCeiling
+pub mod RoundedLoad
 pub mod OutOfRange
