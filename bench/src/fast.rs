@@ -68,7 +68,7 @@ fn within(number: u64, low: u64, high: u64) -> bool {
 
 #[inline(always)]
 fn rounded_load(hundredths: u64) -> u64 {
-    hundredths.div_ceil(100)
+    (hundredths + 50) / 100
 }
 
 // In hundredths.

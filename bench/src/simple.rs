@@ -130,8 +130,9 @@ fn taken(line: &[u8]) -> usize {
     line.len()
 }
 
+/// To the nearest, an exact half upwards.
 fn rounded_load(hundredths: u64) -> u64 {
-    hundredths.div_ceil(100)
+    (hundredths + 50) / 100
 }
 
 // In hundredths.
