@@ -8,7 +8,7 @@
 PREFIX ?= /usr/local
 # The first number, which is also the shared library's, is raised where a struct or a function's arguments change, the
 # second where a result changes or a function is added.
-VERSION = 4.5.0
+VERSION = 4.6.0
 SONAME = libwallcheck.so.$(firstword $(subst ., ,$(VERSION)))
 SHARED = libwallcheck.so.$(VERSION)
 # What is installed, each with a script of its name.

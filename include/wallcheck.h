@@ -36,7 +36,7 @@ typedef struct {
     uint64_t length_or_need; /* storey wall: buckling length in tenths of a mm; cellar wall: required dead load;
                               * minimum load, accepted or refusal 21: that load */
     uint64_t load;           /* design load N: 1.35G + 1.5Q; storey wall with q up to 3000: the smaller of that and
-                              * 1.4(G + Q); rounded up */
+                              * 1.4(G + Q); to the nearest N/m, an exact half upwards */
     uint64_t resistance;     /* resistance */
     int64_t spare;           /* resistance - load */
 } wallcheck_result;

@@ -515,10 +515,12 @@ WINDS = [*near(*WIND_RANGE, 780), 5000, 2**16 + 1, 2**32, 2**32 + 780, 2**63, 2*
 
 
 def minimum_load_edges():
-    """Records with W at and around its bounds; with G at the need and beside it, also where the load is above the
-    resistance, which is 13 before 21; and with the greatest heights, the greatest need and the shallowest bearings."""
+    """Records with W at and around its bounds; with N at the resistance and beside it; with G at the need and beside it, also
+    where the load is above the resistance, which is 13 before 21; and with the greatest heights, the greatest need and the
+    shallowest bearings."""
     for wall in STOREY_WALLS:
         yield from ((wall, W) for W in WINDS)
+    yield from ((wall, 780) for wall in verdict_edges(STOREY_WALLS))
     high = (S(use=1, t=t, a=a, h=h, F=5000) for t in (240, 365, 1000) for a in (101, t // 2 + 1, 175, t) if a <= t
             for h in (2750, 3600, 20 * t, 30 * t) if h <= 20000)
     greatest = S(t=240, a=120, h=20000, held=4, c=500, F=5000)

@@ -12,7 +12,7 @@
 
 #include "wallcheck.h"
 
-enum { EDITION = 107, CELLS = 19 };
+enum { EDITION = 108, CELLS = 19 };
 
 _Static_assert(sizeof(wallcheck_result) == 40, "five numbers of eight bytes");
 _Static_assert(sizeof(wallcheck_reading) == 48, "a result and the count");

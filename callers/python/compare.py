@@ -22,7 +22,7 @@ import walls
 from cases import (read_archive_blocks, read_archive_texts, read_lines, read_minimum_load_lines, read_minimum_load_rows,
                    read_rows)
 
-EDITION = 107
+EDITION = 108
 CELLS = ('usage thickness height length held distance support span bearing strength bonded dead imposed floorload '
          'building storeys otherspan calciumsilicate wind').split()
 GUARD = bytes(range(0xA0, 0xB0))

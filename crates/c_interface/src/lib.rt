@@ -13,7 +13,7 @@ use wallcheck::storey_checks::MinimumLoad;
 use wallcheck::{Checked, CountedResult};
 use worksheet::cells::Cells;
 
-const EDITION: u64 = 107;
+const EDITION: u64 = 108;
 
 // Which rules a result is computed by. Offices file it with their results.
 #[unsafe(no_mangle)]

@@ -18,7 +18,7 @@ const MINIMUM_LOAD_LINES: &str = include_str!("../../../minimum_load_lines.txt")
 const MINIMUM_LOAD_ROWS: &str = include_str!("../../../minimum_load_rows.txt");
 const ARCHIVE_TEXTS: &str = include_str!("../../../archive_texts.txt");
 const ARCHIVE_BLOCKS: &str = include_str!("../../../archive_blocks.txt");
-const EDITION: u64 = 107;
+const EDITION: u64 = 108;
 const OUT_LENGTHS: [usize; 4] = [0, 63, 64, 100];
 const FILL: u8 = 0xA5;
 
