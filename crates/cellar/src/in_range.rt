@@ -15,7 +15,7 @@ pub(crate) struct WallInRange {
 
 impl WallInRange {
     // N, the design load in N/m.
-    #[tactic(auto, using(crate::proofs::Range::in_ranges), unfolding(crate::specs::Load::load, crate::specs::Load::exact_load))]
+    #[tactic(auto, using(crate::proofs::Range::in_ranges))]
     pub(crate) fn load(self) -> u64
         ensures { result ≡ load self.wall }
     {

@@ -18,7 +18,7 @@ impl StoreyWall {
 
 impl WallInRange {
     // N, the design load in N/m.
-    #[tactic(auto, using(crate::proofs::Range::bounds, crate::proofs::Load::load_up_to, crate::proofs::Load::load_above), unfolding(crate::specs::Load::load, crate::specs::Load::exact_load))]
+    #[tactic(auto, using(crate::proofs::Range::bounds))]
     pub(crate) fn load(self) -> u64
         ensures { result ≡ load self.wall }
     {
