@@ -7,7 +7,8 @@
 -- A shorter L never lengthens the governing span. Nor does it lengthen the span in m as long as both records take the same part of the governing
 -- one; a shorter L can lose the reduction to 0.85 of it, hence the clause on L.
 -- A shorter length, a deeper bearing, a greater strength and a shorter span in m each never lower the resistance.
--- Lighter loads never raise the load: each formula grows with G and Q, and where q falls to 3000 or below, the smaller of both takes the place of 1.35G + 1.5Q.
+-- Lighter loads never raise the load: each formula grows with G and Q, and where q falls to 3000 or below, the smaller of both takes the place of 1.35G + 1.5Q;
+-- and rounding to the nearest never turns the order of two loads round.
 -- Each limit compares one of these quantities, or the length, with a bound that both records share, but for the height limit, which can only rise:
 -- a calcium silicate wall's is never below document 01's and never falls as the strength grows, and a bearing over the whole thickness stays so.
 -- So whatever the first keeps, the second keeps.

@@ -68,8 +68,8 @@ RoundedOnceUpFromHalf =
 abbrev pub AcceptedWithExcess : Wall → (excess : Fraction) → Type 0
 AcceptedWithExcess wall excess = Accepted (check wall) × (minus (exact_load wall) (whole (check wall).resistance) ≈ excess)
 
--- So the half is needed, for both kinds: the exact loads of A with G=261047 and Q=8, and of `C 300 2500 2000 6000 20000 900 0 377777 1 5000`, are 0.45 N/m above
--- the resistances 352425 and 510000. Exact loads are multiples of 0.05.
+-- So the half is needed, for both kinds: the exact loads of A with G=261047 and Q=8 and of `C 300 2500 2000 6000 20000 900 0 377777 1 5000` are 0.45 N/m above
+-- their resistances, 352425 and 510000. With whole G and Q every exact load is a multiple of 0.05, so that none comes nearer to the half.
 abbrev pub HalfIsNeeded : Type 0
 HalfIsNeeded =
     AcceptedWithExcess (Storey (loaded_a 261047 8 2250)) (45 ÷ 100)
