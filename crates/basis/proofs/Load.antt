@@ -6,6 +6,10 @@ use Rattle.basis.specs.Fraction.{Fraction, whole, ◌≼◌, minus, ceil}
 use Rattle.basis.specs.Load.{rounded_load, LoadRounded, ExceedsByLessThanHalf}
 use Rattle.basis.proofs.Fraction.{ceil_above, ceil_least, nearest_mono, nearest_most, nearest_rounds}
 
+pub load_rounded : (f : Fraction) → 0 < f.den → LoadRounded (rounded_load f) f
+unfolding rounded_load
+load_rounded = nearest_rounds
+
 pub load_mono : (f g : Fraction) → 0 < f.den → 0 < g.den → f ≼ g → rounded_load f ≤ rounded_load g
 unfolding rounded_load
 load_mono = nearest_mono
@@ -13,10 +17,6 @@ load_mono = nearest_mono
 pub load_most : (f : Fraction) (m : ℕ) → 0 < f.den → f ≼ whole m → rounded_load f ≤ m
 unfolding rounded_load
 load_most = nearest_most
-
-pub load_rounded : (f : Fraction) → 0 < f.den → LoadRounded (rounded_load f) f
-unfolding rounded_load
-load_rounded = nearest_rounds
 
 -- The exact load rounded up, or 1 less.
 pub load_near_ceil : (f : Fraction) → 0 < f.den → (rounded_load f ≤ ceil f) × (ceil f ≤ rounded_load f + 1)

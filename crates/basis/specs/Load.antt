@@ -14,6 +14,6 @@ rounded_load exact = nearest exact
 abbrev pub LoadRounded : (N : ℕ) (exact : Fraction) → Type 0
 LoadRounded N exact = NearestTo N exact
 
--- #108: the exact load "exceeds the reported resistance, if at all, by less than half a newton per metre".
+-- #108: the exact load "exceeds the reported resistance, if at all, by less than half a newton per metre". `minus` stops at 0: "if at all".
 abbrev pub ExceedsByLessThanHalf : (exact : Fraction) (resistance : ℕ) → Type 0
 ExceedsByLessThanHalf exact resistance = minus exact (whole resistance) ≺ (1 ÷ 2)

@@ -146,7 +146,7 @@ const LOAD_UNIT: u64 = 100;
 
 const LOAD_HALF: u64 = 50;
 
-// A load in hundredths of N/m, rounded to N/m: one more where what is left is a half or above.
+// #108: a load in hundredths of N/m, rounded to the nearest N/m: one more where what is left is a half or above.
 pub fn rounded_load(hundredths: u64) -> u64
     ensures { result ≡ rounded_load (hundredths ÷ 100) }
 {

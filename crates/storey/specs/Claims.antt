@@ -53,7 +53,7 @@ OnlyHeightChanges =
 abbrev pub LoadGrows : Type 0
 LoadGrows = (w w' : StoreyWall) → w.dead ≤ w'.dead → w.imposed ≤ w'.imposed → w.floorload ≤ w'.floorload → load w ≤ load w'
 
--- #103, "the smaller of that and 1.35G + 1.5Q": N is never above document 01's. With `AcceptedExactly`: a wall accepted with that load is accepted.
+-- #103, "the smaller of that and 1.35G + 1.5Q": N is never above that of 1.35G + 1.5Q, rounded alike. With `AcceptedExactly`: a wall accepted with that load is accepted.
 abbrev pub LoadNoGreater : Type 0
 LoadNoGreater = (w : StoreyWall) → load w ≤ rounded_load (general_load w.dead w.imposed)
 

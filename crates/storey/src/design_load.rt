@@ -1,4 +1,4 @@
-// Load: document 01, "Storey wall", and document 02, #103.
+// Load: document 01, "Storey wall", and document 02, #103; its rounding (#108) is that of `basis`.
 ghost use Rattle.std.specs.Prelude.{◌≡◌};
 ghost use Rattle.storey.specs.Load.{load};
 

@@ -35,8 +35,7 @@ accepted_exceeds_by_less_than_half wall accepted =
 
 -- The reported load is that of the definition.
 reported : (wall : Wall) → in_range wall ≡ true → NoneApplies (parts wall).limits → (check wall).load ≡ (parts wall).load
-reported (Storey w) passed none = ap (λ (result : CheckResult). result.load) (reported_numbers (parts (Storey w)) passed none)
-reported (Cellar w) passed none = ap (λ (result : CheckResult). result.load) (reported_numbers (parts (Cellar w)) passed none)
+reported wall passed none = ap (λ (result : CheckResult). result.load) (reported_numbers (parts wall) passed none)
 
 load_grows : (first second : Wall) → NoLoadFalls first second → (parts first).load ≤ (parts second).load
 load_grows (Storey first) (Storey second) loads = StoreyLaws.load_grows first second loads.0 loads.1 loads.2

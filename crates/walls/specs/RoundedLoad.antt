@@ -32,7 +32,7 @@ ReportedLoadGrows =
     in_range first ≡ true → NoneApplies (parts first).limits → in_range second ≡ true → NoneApplies (parts second).limits →
     (check first).load ≤ (check second).load
 
--- N is the exact load rounded up, as before, or 1 less. So what was accepted is accepted.
+-- N is the exact load rounded up, as before, or 1 less. With `AcceptedExactly` of either kind: what was accepted is accepted.
 abbrev pub SameOrOneLess : Type 0
 SameOrOneLess = (wall : Wall) → ((parts wall).load ≤ ceil (exact_load wall)) × (ceil (exact_load wall) ≤ (parts wall).load + 1)
 
