@@ -141,14 +141,12 @@ pub fn ceil_div(dividend: u64, divisor: u64) -> u64
     }
 }
 
-// Loads with their factors are in hundredths of N/m.
-const LOAD_UNIT: u64 = 100;
-
+// Loads with their factors are in hundredths of N/m: half a N/m.
 const LOAD_HALF: u64 = 50;
 
-// #108: a load in hundredths of N/m, rounded to the nearest N/m: one more where what is left is a half or above.
+// #108: a load in hundredths of N/m, to the nearest N/m. In halves of a N/m: one more, then down to whole N/m.
 pub fn rounded_load(hundredths: u64) -> u64
     ensures { result ≡ rounded_load (hundredths ÷ 100) }
 {
-    hundredths / LOAD_UNIT + hundredths % LOAD_UNIT / LOAD_HALF
+    (hundredths / LOAD_HALF + 1) / 2
 }
