@@ -16,6 +16,7 @@ use Rattle.line.specs.Kind.{kind_letter}
 use Rattle.line.specs.Grammar.{fields, NineDigits, count_of, letter_of}
 use Rattle.line.specs.Reading.{wall_of}
 use Rattle.basis.proofs.Choice.{cond_cases}
+use Rattle.basis.proofs.Listed.{listed, listed_take, listed_all}
 
 pub fields_append : (ns ms : List ℕ) → fields (ns ++ ms) ≡ fields ns ++ fields ms
 unfolding fields
@@ -57,18 +58,6 @@ count_most c =
     cond_cases (λ (n : ℕ). n ≤ count_of 83) (eqb c 83) (λ e. omega arith)
     (λ e. cond_cases (λ (n : ℕ). n ≤ count_of 83) (eqb c 67) (λ e. omega arith) (λ e. omega arith))
 
--- The n elements of a list that begin at i, one by one.
-listed : ℕ → ℕ → List ℕ → List ℕ
-listed zero i l = []
-listed (suc n) i l = get_or l i 0 ∷ listed n (suc i) l
-
-listed_take : (n i : ℕ) (l : List ℕ) → i + n ≤ length l → listed n i l ≡ take n (drop i l)
-unfolding listed
-listed_take zero i l h = refl
-listed_take (suc n) i l h =
-    let within : i < length l = omega arith in
-    rw (drop-cons l i 0) (ap (λ (m : List ℕ). get_or l i 0 ∷ m) (listed_take n (suc i) l (omega arith)))
-
 module _ (l : List ℕ) where
   -- A record takes as many numbers of a list as its letter says, from the front.
   pub wall_of_take : (c : ℕ) → 0 < count_of c → count_of c ≤ length l → wall_of c (take (count_of c) l) ≡ wall_of c l
@@ -83,8 +72,8 @@ module _ (l : List ℕ) where
   unfolding count_of wall_of listed
   numbers_of_wall_of =
       letter_cases (λ (c : ℕ). length l ≡ count_of c → numbers_of (wall_of c l) ≡ l)
-      (λ e. listed_take (count_of 83) 0 l (omega arith) ∙ take_all (count_of 83) l (omega arith))
-      (λ e. listed_take (count_of 67) 0 l (omega arith) ∙ take_all (count_of 67) l (omega arith))
+      (listed_all (count_of 83) l)
+      (listed_all (count_of 67) l)
 
   pub letter_of_wall_of : (c : ℕ) → 0 < count_of c → letter_of (wall_of c l) ≡ c
   unfolding wall_of

@@ -14,7 +14,7 @@ mod result;
 mod spans;
 
 // The numbers of an `S` record, in document 01's order, then those of document 02, #101 and #102. Lengths are in mm.
-#[derive(Clone, Copy)]
+#[derive(Clone, Copy, PartialEq, Eq)]
 pub struct StoreyWall {
     // use: 1 inner, 2 single-leaf outer, 3 bearing leaf or party wall, 4 garage outer
     pub usage: u64,

@@ -1,0 +1,97 @@
+-- Laws of the refusals: what no refusal says of two records.
+use Prim.Native.Nat.{ℕ}
+use mathlib.Core.Bool.{Bool, true, false, true≢false, not, and-false}
+use mathlib.Core.List.{List, [], ◌∷◌}
+use mathlib.Core.Logic.{◌⊎◌, inl, inr}
+use mathlib.Core.Path.{◌≡◌, refl, sym, ap, ap₂, subst}
+use native.Mathlib.Omega.{arith}
+use lib.Dec.{eqb, ltb}
+use borrow.Author.Tests.{not-false, ltb-false, le-ltb, eqb-true, eq-eqb}
+use Rattle.basis.specs.Refusal.{NoneApplies}
+use Rattle.basis.proofs.Choice.{and_left, and_right, and_none, or_left, or_right}
+use Rattle.storey.specs.declared.StoreyWall.{StoreyWall}
+use Rattle.storey.specs.Record.{numbers, storey_of}
+use Rattle.storey.specs.Range.{in_range}
+use Rattle.early_design.specs.Check.{low_above_high, with_six_of, same_numbers, another_differs, two_way_span_differs, not_low_and_high, refusals}
+use Rattle.early_design.specs.Claims.{LowAndHigh, NotRefusedExactly}
+
+same_numbers_are : (ns ms : List ℕ) → same_numbers ns ms ≡ true → ns ≡ ms
+same_numbers_are [] [] same = refl
+same_numbers_are [] (m ∷ ms) same = absurd (true≢false (sym same))
+same_numbers_are (n ∷ ns) [] same = absurd (true≢false (sym same))
+same_numbers_are (n ∷ ns) (m ∷ ms) same =
+    ap₂ (λ (k : ℕ) (ks : List ℕ). k ∷ ks) (eqb-true n m (and_left (eqb n m) (same_numbers ns ms) same))
+    (same_numbers_are ns ms (and_right (eqb n m) (same_numbers ns ms) same))
+
+same_as_itself : (ns : List ℕ) → same_numbers ns ns ≡ true
+same_as_itself [] = refl
+same_as_itself (n ∷ ns) = rw (eq-eqb n n refl) (same_as_itself ns)
+
+module _ (low high : StoreyWall) where
+  all_else : another_differs low high ≡ false → with_six_of high low ≡ high
+  unfolding another_differs
+  all_else none =
+      let same = not-false (same_numbers (numbers (with_six_of high low)) (numbers high)) none in
+      ap storey_of (same_numbers_are (numbers (with_six_of high low)) (numbers high) same)
+
+  no_other : with_six_of high low ≡ high → another_differs low high ≡ false
+  unfolding another_differs
+  no_other is =
+      ap not (subst (λ (w : StoreyWall). same_numbers (numbers (with_six_of high low)) (numbers w) ≡ true) is (same_as_itself (numbers (with_six_of high low))))
+
+  two_way : two_way_span_differs low high ≡ false → (low.otherspan ≡ 0) ⊎ (low.span ≡ high.span)
+  unfolding two_way_span_differs
+  two_way none = by_span (ltb 0 low.otherspan) refl
+    where
+      by_span : (b : Bool) → ltb 0 low.otherspan ≡ b → (low.otherspan ≡ 0) ⊎ (low.span ≡ high.span)
+      by_span true above =
+          inr (eqb-true low.span high.span (not-false (eqb low.span high.span) (and_none (ltb 0 low.otherspan) (not (eqb low.span high.span)) none above)))
+      by_span false isnt = inl (omega (arith, ltb-false 0 low.otherspan isnt))
+
+  no_span : (low.otherspan ≡ 0) ⊎ (low.span ≡ high.span) → two_way_span_differs low high ≡ false
+  unfolding two_way_span_differs
+  no_span (inl one_way) = rw one_way refl
+  no_span (inr same) = rw (eq-eqb low.span high.span same) (and-false (ltb 0 low.otherspan))
+
+  low_and_high : not_low_and_high low high ≡ false → LowAndHigh low high
+  unfolding not_low_and_high low_above_high
+  low_and_high none =
+      let to_others = or_left _ _ none in
+      let to_building = or_left _ _ to_others in
+      let to_floorload = or_left _ _ to_building in
+      let to_span = or_left _ _ to_floorload in
+      let to_strength = or_left _ _ to_span in
+      let to_imposed = or_left _ _ to_strength in
+      record {
+        dead = ltb-false high.dead low.dead (or_left _ _ to_imposed);
+        imposed = ltb-false high.imposed low.imposed (or_right _ _ to_imposed);
+        strength = ltb-false high.strength low.strength (or_right _ _ to_strength);
+        span = ltb-false high.span low.span (or_right _ _ to_span);
+        floorload = ltb-false high.floorload low.floorload (or_right _ _ to_floorload);
+        building = ltb-false high.building low.building (or_right _ _ to_building);
+        all_else = all_else (or_right _ _ to_others);
+        two_way = two_way (or_right _ _ none);
+      }
+
+  no_refusal_25 : LowAndHigh low high → not_low_and_high low high ≡ false
+  unfolding not_low_and_high low_above_high
+  no_refusal_25 pair =
+      rw (
+        le-ltb high.dead low.dead pair.dead,
+        le-ltb high.imposed low.imposed pair.imposed,
+        le-ltb high.strength low.strength pair.strength,
+        le-ltb high.span low.span pair.span,
+        le-ltb high.floorload low.floorload pair.floorload,
+        le-ltb high.building low.building pair.building,
+        no_other pair.all_else,
+        no_span pair.two_way,
+      ) refl
+
+  pub not_refused : in_range low ≡ true → in_range high ≡ true → not_low_and_high low high ≡ false → NoneApplies (refusals low high)
+  not_refused low_passed high_passed agree = (ap not low_passed, (ap not high_passed, (agree, tt)))
+
+pub not_refused_exactly : NotRefusedExactly
+not_refused_exactly low high = (
+  (λ none. (not-false (in_range low) none.0, not-false (in_range high) none.1.0, low_and_high low high none.1.1.0)),
+  (λ all. not_refused low high all.0 all.1 (no_refusal_25 low high all.2)),
+)
