@@ -6,14 +6,16 @@ ghost use Rattle.wallcheck.specs.Entry.{line_result, counted_result, cells_resul
 ghost use Rattle.archive.specs.Block.{read_block};
 ghost use Rattle.archive.specs.Entry.{block_count, written_into, yielded_count, archived};
 ghost use Rattle.wallcheck.specs.MinimumLoad.{minimum_load_line, minimum_load_cells};
+ghost use Rattle.wallcheck.specs.EarlyDesign.{range_lines, range_cells};
 
 use archive::Archived;
 use basis::CheckResult;
-use wallcheck::storey_checks::MinimumLoad;
+use early_design::RangeResult;
+use wallcheck::storey_checks::{DesignRange, MinimumLoad};
 use wallcheck::{Checked, CountedResult};
 use worksheet::cells::Cells;
 
-const EDITION: u64 = 108;
+const EDITION: u64 = 109;
 
 // Which rules a result is computed by. Offices file it with their results.
 #[unsafe(no_mangle)]
@@ -118,4 +120,20 @@ pub extern "C" fn wallcheck_archive_read(block: &[u8]) -> Archived
     ensures { result ≡ archived (yielded_count (read_block block.now)) }
 {
     Archived::from(archive::read_block(block).map(|lines| lines.len()))
+}
+
+// Document 02, #109: a low and a high record.
+
+#[unsafe(no_mangle)]
+pub extern "C" fn wallcheck_range_lines(low: &[u8], high: &[u8]) -> RangeResult
+    ensures { result ≡ range_lines low.now high.now }
+{
+    DesignRange(low, high).check()
+}
+
+#[unsafe(no_mangle)]
+pub extern "C" fn wallcheck_range_rows(low: Cells, high: Cells) -> RangeResult
+    ensures { result ≡ range_cells low high }
+{
+    DesignRange(&low, &high).check()
 }

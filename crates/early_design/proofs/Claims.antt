@@ -118,8 +118,8 @@ otherwise_answers_3 low high =
       (λ is.
           let all = exactly.0 is in
           let neither = number.0 all.1 in
-          (all.0, (λ each. neither.0 (test.1 each)), (λ none. neither.1 (test'.1 none)))),
-      (λ all. exactly.1 (all.0, number.1 ((λ is. all.1 (test.0 is)), (λ is. all.2 (test'.0 is))))),
+          (all.0, ((λ each. neither.0 (test.1 each)), (λ none. neither.1 (test'.1 none))))),
+      (λ all. exactly.1 (all.0, number.1 ((λ is. all.1.0 (test.0 is)), (λ is. all.1.1 (test'.0 is))))),
     )
 
 -- What the two records say of the answer.
@@ -154,7 +154,7 @@ module _ (low high : StoreyWall) (none : NoneApplies (refusals low high)) where
   pub answers_some : (WorstAccepted → ⊥) → BestAccepted → Answers low high 3
   answers_some worst best =
       let decide = two_records_decide low high none in
-      (otherwise_answers_3 low high).1 (none, (λ every. worst (decide.2.0 every)), (λ not_one. decide.3.0 not_one best))
+      (otherwise_answers_3 low high).1 (none, ((λ every. worst (decide.2.0 every)), (λ not_one. decide.3.0 not_one best)))
 
   pub answer_all : WorstAccepted → AllAccepted ≡ answer low high
   answer_all worst = sym (answer_by low high AllAccepted (answers_all worst))

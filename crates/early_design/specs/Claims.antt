@@ -29,13 +29,16 @@ NotRefusedExactly =
     (low high : StoreyWall) →
     NoneApplies (refusals low high) ↔ ((in_range low ≡ true) × (in_range high ≡ true) × LowAndHigh low high)
 
--- "every record between them is accepted", "none is"
+-- "every record between them is accepted", "none is", "otherwise"
 
 abbrev pub EveryAccepted : (low high : StoreyWall) → Type 0
 EveryAccepted low high = (wall : StoreyWall) → Between low high wall → Accepted (StoreyCheck.check wall)
 
 abbrev pub NotOneAccepted : (low high : StoreyWall) → Type 0
 NotOneAccepted low high = (wall : StoreyWall) → Between low high wall → Accepted (StoreyCheck.check wall) → ⊥
+
+abbrev pub Otherwise : (low high : StoreyWall) → Type 0
+Otherwise low high = (EveryAccepted low high → ⊥) × (NotOneAccepted low high → ⊥)
 
 -- The two numbers that are handed back.
 abbrev pub answers : (low high : StoreyWall) → RangeResult
@@ -51,9 +54,7 @@ abbrev pub NotOneAcceptedAnswers2 : Type 0
 NotOneAcceptedAnswers2 = (low high : StoreyWall) → Answers low high 2 ↔ (NoneApplies (refusals low high) × NotOneAccepted low high)
 
 abbrev pub OtherwiseAnswers3 : Type 0
-OtherwiseAnswers3 =
-    (low high : StoreyWall) →
-    Answers low high 3 ↔ (NoneApplies (refusals low high) × (EveryAccepted low high → ⊥) × (NotOneAccepted low high → ⊥))
+OtherwiseAnswers3 = (low high : StoreyWall) → Answers low high 3 ↔ (NoneApplies (refusals low high) × Otherwise low high)
 
 -- Every record between two that are not refused is in range: a record of document 01.
 abbrev pub BetweenInRange : Type 0

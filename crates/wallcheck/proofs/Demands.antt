@@ -148,7 +148,7 @@ cells_written buffer cells long = written_to buffer (cells_result cells) (cells_
 
 -- Demand 2
 
-in_range_line : (wall : Wall) → in_range wall ≡ true → line_result (line_of wall) ≡ check wall
+pub in_range_line : (wall : Wall) → in_range wall ≡ true → line_result (line_of wall) ≡ check wall
 in_range_line wall passed = line_of_record wall (AllBelow-mono 100000000 (10 ^ 9) (numbers_of wall) (omega arith) (numbers_are_small wall passed))
 
 pub line_numbers : LineNumbers

@@ -3,7 +3,8 @@ use Rattle.std.proofs.Common.{Option, Some, None, Float}
 use Prim.Native.Nat.{ℕ, ◌<◌, ◌^◌}
 use mathlib.Core.Bool.{Bool, true, false}
 use mathlib.Core.List.{List}
-use mathlib.Core.Path.{◌≡◌, ◌∙◌, refl, sym, ap, ap₂}
+use mathlib.Core.Path.{◌≡◌, ◌∙◌, refl, sym, ap, ap₂, subst}
+use Rattle.std.proofs.lemmas.Option.{none-some, same_Some}
 use native.Mathlib.Omega.{arith}
 use Rattle.basis.specs.declared.CheckResult.{CheckResult}
 use Rattle.basis.specs.Range.{AllBelow}
@@ -22,6 +23,30 @@ use Rattle.worksheet.specs.Entry.{Entry, entries_wall, TurnIntoTheirRecord}
 use Rattle.worksheet.proofs.Number.{cell_is_its_value}
 use Rattle.wallcheck.specs.StoreyRecord.{storey_alone, read_storey, result_beside, RefusesAllButStoreyLines, ChecksStoreyRecords, IsTheLineBeside, RefusedOtherwiseBeside}
 
+-- What a line is read as: the record of an `S` line of the form; None for any other line.
+
+pub read_storey_complete : (wall : StoreyWall) → NineDigits (numbers wall) → read_storey (line_of (Storey wall)) ≡ Some wall
+unfolding read_storey
+read_storey_complete wall nine = ap storey_alone (reading_complete (Storey wall) nine)
+
+pub read_storey_sound : (line : List ℕ) (wall : StoreyWall) → read_storey line ≡ Some wall → NineDigits (numbers wall) × (line ≡ line_of (Storey wall))
+unfolding read_storey
+read_storey_sound line wall = by_reading (read_line line) refl
+  where
+    by_reading : (r : Option Wall) → read_line line ≡ r → storey_alone r ≡ Some wall → NineDigits (numbers wall) × (line ≡ line_of (Storey wall))
+    by_reading (Some (Storey found)) read is =
+        let sound = reading_sound line (Storey found) read in
+        subst (λ (w : StoreyWall). NineDigits (numbers w) × (line ≡ line_of (Storey w))) (same_Some found wall is) (sound.1, sound.0)
+    by_reading (Some (Cellar found)) read is = absurd (none-some wall is)
+    by_reading None read is = absurd (none-some wall is)
+
+pub read_storey_none : (line : List ℕ) → ((wall : StoreyWall) → NineDigits (numbers wall) → line ≡ line_of (Storey wall) → ⊥) → read_storey line ≡ None
+read_storey_none line none = by_reading (read_storey line) refl
+  where
+    by_reading : (r : Option StoreyWall) → read_storey line ≡ r → r ≡ None
+    by_reading (Some wall) is = let sound = read_storey_sound line wall is in absurd (none wall sound.0 sound.1)
+    by_reading None is = refl
+
 module _ (check : StoreyWall → ℕ → CheckResult) where
   -- The entries of the check, for a line and at what stands in the places of a record's numbers.
 
@@ -32,22 +57,14 @@ module _ (check : StoreyWall → ℕ → CheckResult) where
   cell_entry es x = check (entries_wall es) (cell_number x)
 
   pub checks_storey_records : ChecksStoreyRecords check line_entry
-  unfolding read_storey
-  checks_storey_records wall n nine = ap (λ (r : Option Wall). result_beside check (storey_alone r) n) (reading_complete (Storey wall) nine)
+  checks_storey_records wall n nine = ap (λ (r : Option StoreyWall). result_beside check r n) (read_storey_complete wall nine)
 
   pub refuses_all_but_storey_lines : ((wall : StoreyWall) (n : ℕ) → (check wall n).refusal ≡ 1 → ⊥) → RefusesAllButStoreyLines line_entry
-  unfolding read_storey
   refuses_all_but_storey_lines never_1 line n = (
     (λ one wall nine same.
         never_1 wall n (ap (λ (r : CheckResult). r.refusal) (sym (checks_storey_records wall n nine) ∙ ap (λ (l : List ℕ). result_beside check (read_storey l) n) (sym same) ∙ one))),
-    (λ none. by_reading (read_line line) refl none),
+    (λ none. ap (λ (r : Option StoreyWall). result_beside check r n) (read_storey_none line none)),
   )
-    where
-      by_reading : (r : Option Wall) → read_line line ≡ r → ((wall : StoreyWall) → NineDigits (numbers wall) → line ≡ line_of (Storey wall) → ⊥) →
-          result_beside check (storey_alone r) n ≡ refused_with 1
-      by_reading (Some (Storey wall)) is none = let sound = reading_sound line (Storey wall) is in absurd (none wall sound.1 sound.0)
-      by_reading (Some (Cellar wall)) is none = refl
-      by_reading None is none = refl
 
   -- What turns into the record of its numbers, whether row or cells.
   module _ (es : List Entry) (own : TurnIntoTheirRecord es) where

@@ -1,5 +1,6 @@
--- The public entries: what each answers, and demands 1 to 3, #104 and #106 restated for them.
+-- The public entries: what each answers, and demands 1 to 3, #104, #106 and #109 restated for them.
 pub mod Entry
 pub mod Demands
 pub mod StoreyRecord
 pub mod MinimumLoad
+pub mod EarlyDesign

@@ -1,4 +1,4 @@
-// Checks that take `S` records alone, with a number beside the record: document 02, #106.
+// Checks that take `S` records alone: with a number beside the record, document 02, #106; of a low and a high record, #109.
 ghost use Rattle.std.specs.Prelude.{ℕ, ◌≡◌, Option, Some};
 ghost use Rattle.basis.specs.declared.CheckResult.{CheckResult};
 ghost use Rattle.storey.specs.declared.StoreyWall.{StoreyWall};
@@ -7,9 +7,13 @@ ghost use Rattle.worksheet.specs.Row.{row_wall};
 ghost use Rattle.worksheet.specs.Cells.{cells_wall};
 ghost use Rattle.wallcheck.specs.StoreyRecord.{read_storey, result_beside};
 ghost use Rattle.wallcheck.specs.MinimumLoad.{check};
+ghost use Rattle.basis.specs.Refusal.{numbered};
+ghost use Rattle.early_design.specs.Check.{range_result};
+ghost use Rattle.wallcheck.specs.EarlyDesign.{range_read};
 
 use crate::Checked;
 use basis::{CheckResult, Refusal};
+use early_design::{RangeAnswer, RangeResult, WallRange};
 use minimum_load::TopStoreyWall;
 use storey::StoreyWall;
 use walls::Wall;
@@ -96,6 +100,30 @@ impl<R: StoreyRecordSource, W: Number> Checked for MinimumLoad<R, W> {
                 TopStoreyWall { wall, designwind }.check()
             }
             None => CheckResult::from(Refusal::NotALine),
+        }
+    }
+}
+
+// Early design with ranges: what the low and the high `S` record are read from.
+#[derive(Clone, Copy)]
+pub struct DesignRange<R>(pub R, pub R);
+
+impl<R: StoreyRecordSource> DesignRange<R> {
+    // The answer, or the refusal, as two numbers.
+    pub fn check(self) -> RangeResult
+        ensures { result ≡ range_result (range_read (R.read_as self.0) (R.read_as self.1)) }
+    {
+        RangeResult::from(self.answer())
+    }
+
+    fn answer(self) -> Result<RangeAnswer, Refusal>
+        ensures { numbered result ≡ range_read (R.read_as self.0) (R.read_as self.1) }
+    {
+        let DesignRange(low, high) = self;
+        match (low.storey_wall(), high.storey_wall()) {
+            (Some(low), Some(high)) => WallRange { low, high }.check(),
+            (Some(low), None) if !low.in_range() => Err(Refusal::OutOfRange),
+            _ => Err(Refusal::NotALine),
         }
     }
 }
