@@ -1,5 +1,5 @@
 -- Laws of the records between two: to try every list of numbers between the ends is to try every record between.
-use Prim.Native.Nat.{ℕ, zero, suc, ◌+◌, ◌-◌, ◌≤◌, ◌<◌}
+use Prim.Native.Nat.{ℕ, zero, suc, ◌+◌, ◌≤◌, ◌<◌}
 use mathlib.Core.Bool.{Bool, true}
 use mathlib.Core.List.{List, [], ◌∷◌}
 use mathlib.Core.Path.{◌≡◌, refl, sym, ap, ap₂, subst}
@@ -38,13 +38,13 @@ every_list_true [] test every (n ∷ ns) between = absurd between
 every_list_true (e ∷ es) test every [] between = absurd between
 every_list_true (e ∷ es) test every (n ∷ ns) between =
     every_list_true es (λ ms. test (n ∷ ms))
-    (every_from_true e.0 (suc e.1 - e.0) (λ m. every_list es (λ ms. test (m ∷ ms))) every n between.0 (omega (arith, between.0, between.1))) ns between.2
+    (every_from_true e.0 _ (λ m. every_list es (λ ms. test (m ∷ ms))) every n between.0 (omega (arith, between.0, between.1))) ns between.2
 
 pub true_every_list : (es : List (ℕ × ℕ)) (test : List ℕ → Bool) → ((ns : List ℕ) → EachBetween es ns → test ns ≡ true) → every_list es test ≡ true
 unfolding every_list
 true_every_list [] test all = all [] tt
 true_every_list (e ∷ es) test all =
-    true_every_from e.0 (suc e.1 - e.0) (λ m. every_list es (λ ms. test (m ∷ ms)))
+    true_every_from e.0 _ (λ m. every_list es (λ ms. test (m ∷ ms)))
     (λ n from to. true_every_list es (λ ms. test (n ∷ ms)) (λ ns between. all (n ∷ ns) (from, omega (arith, from, to), between)))
 
 -- As many numbers as ends.

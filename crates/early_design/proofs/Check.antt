@@ -1,19 +1,21 @@
 -- Laws of the refusals: what no refusal says of two records.
 use Prim.Native.Nat.{ℕ}
-use mathlib.Core.Bool.{Bool, true, false, true≢false, not, and-false}
+use mathlib.Core.Bool.{Bool, true, false, true≢false, cond, not, ◌&&◌, and-false}
 use mathlib.Core.List.{List, [], ◌∷◌}
 use mathlib.Core.Logic.{◌⊎◌, inl, inr}
-use mathlib.Core.Path.{◌≡◌, refl, sym, ap, ap₂, subst}
+use mathlib.Core.Path.{◌≡◌, ◌∙◌, refl, sym, ap, ap₂, subst}
 use native.Mathlib.Omega.{arith}
 use lib.Dec.{eqb, ltb}
 use borrow.Author.Tests.{not-false, ltb-false, le-ltb, eqb-true, eq-eqb}
-use Rattle.basis.specs.Refusal.{NoneApplies}
+use Rattle.basis.specs.Refusal.{first_or, NoneApplies}
+use Rattle.std.specs.Prelude.{Result, Ok, Err}
 use Rattle.basis.proofs.Choice.{and_left, and_right, and_none, or_left, or_right}
 use Rattle.storey.specs.declared.StoreyWall.{StoreyWall}
 use Rattle.storey.specs.Record.{numbers, storey_of}
 use Rattle.storey.specs.Range.{in_range}
-use Rattle.early_design.specs.Check.{low_above_high, with_six_of, same_numbers, another_differs, two_way_span_differs, not_low_and_high, refusals}
-use Rattle.early_design.specs.Claims.{LowAndHigh, NotRefusedExactly}
+use Rattle.early_design.specs.Check.{low_above_high, with_six_of, same_numbers, another_differs, two_way_span_differs, not_low_and_high, refusals, answer, check, range_result}
+use Rattle.early_design.specs.declared.RangeAnswer.{RangeAnswer}
+use Rattle.early_design.specs.Claims.{LowAndHigh, NotRefusedExactly, OutOfRangeRefused, RefusedAs25Exactly}
 
 same_numbers_are : (ns ms : List ℕ) → same_numbers ns ms ≡ true → ns ≡ ms
 same_numbers_are [] [] same = refl
@@ -45,7 +47,8 @@ module _ (low high : StoreyWall) where
     where
       by_span : (b : Bool) → ltb 0 low.otherspan ≡ b → (low.otherspan ≡ 0) ⊎ (low.span ≡ high.span)
       by_span true above =
-          inr (eqb-true low.span high.span (not-false (eqb low.span high.span) (and_none (ltb 0 low.otherspan) (not (eqb low.span high.span)) none above)))
+          let same = eqb-true _ _ (not-false _ (and_none _ _ none above)) in
+          inr (omega (arith, same))
       by_span false isnt = inl (omega (arith, ltb-false 0 low.otherspan isnt))
 
   no_span : (low.otherspan ≡ 0) ⊎ (low.span ≡ high.span) → two_way_span_differs low high ≡ false
@@ -89,6 +92,40 @@ module _ (low high : StoreyWall) where
 
   pub not_refused : in_range low ≡ true → in_range high ≡ true → not_low_and_high low high ≡ false → NoneApplies (refusals low high)
   not_refused low_passed high_passed agree = (ap not low_passed, (ap not high_passed, (agree, tt)))
+
+-- The first refusal that applies.
+
+pub out_of_range_refused : OutOfRangeRefused
+unfolding first_or
+out_of_range_refused low high = by_low (in_range low) refl
+  where
+    by_low : (b : Bool) → in_range low ≡ b → (b && in_range high) ≡ false → check low high ≡ Err 2
+    by_low true passed failed = rw (passed, failed) refl
+    by_low false failed either = rw failed refl
+
+refusal_number : Result RangeAnswer ℕ → ℕ
+refusal_number given = (range_result given).refusal
+
+only_25 : (passed passed' apart : Bool) (given : RangeAnswer) →
+    refusal_number (cond (not passed) (Err 2) (cond (not passed') (Err 2) (cond apart (Err 25) (Ok given)))) ≡ 25 → (passed ≡ true) × (passed' ≡ true) × (apart ≡ true)
+unfolding refusal_number
+only_25 true true true given is = (refl, refl, refl)
+only_25 true true false given is = absurd (let no· : ⊥ = omega (arith, is) in no·)
+only_25 true false apart given is = absurd (let no· : ⊥ = omega (arith, is) in no·)
+only_25 false passed' apart given is = absurd (let no· : ⊥ = omega (arith, is) in no·)
+
+pub refused_as_25_exactly : RefusedAs25Exactly
+unfolding first_or refusal_number
+refused_as_25_exactly low high = (
+  (λ is.
+      let tests = only_25 (in_range low) (in_range high) (not_low_and_high low high) (answer low high) (ap refusal_number is) in
+      (tests.0, tests.1, (λ pair. true≢false (sym tests.2 ∙ no_refusal_25 low high pair)))),
+  (λ all. rw (all.0, all.1) (by_pair (not_low_and_high low high) refl all.2)),
+)
+  where
+    by_pair : (b : Bool) → not_low_and_high low high ≡ b → (LowAndHigh low high → ⊥) → ◌≡◌ {A = Result RangeAnswer ℕ} (cond b (Err 25) (Ok (answer low high))) (Err 25)
+    by_pair true apart none = refl
+    by_pair false agree none = absurd (none (low_and_high low high agree))
 
 pub not_refused_exactly : NotRefusedExactly
 not_refused_exactly low high = (

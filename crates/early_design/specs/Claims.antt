@@ -1,6 +1,6 @@
 -- Document 02, #109, as claims about the definitions; their proofs stand in proofs/Corners.antt and proofs/Claims.antt. "The check says 1 if every record between them is accepted, 2 if
 -- none is, 3 otherwise, each exactly then."
-use Rattle.std.specs.Prelude.{ℕ, ◌≤◌, true, ◌⊎◌, ◌↔◌, ◌≡◌}
+use Rattle.std.specs.Prelude.{ℕ, ◌≤◌, true, false, ◌&&◌, ◌⊎◌, ◌↔◌, ◌≡◌, Err}
 use Rattle.basis.specs.Refusal.{NoneApplies}
 use Rattle.basis.specs.Result.{Accepted}
 use Rattle.storey.specs.declared.StoreyWall.{StoreyWall}
@@ -28,6 +28,16 @@ abbrev pub NotRefusedExactly : Type 0
 NotRefusedExactly =
     (low high : StoreyWall) →
     NoneApplies (refusals low high) ↔ ((in_range low ≡ true) × (in_range high ≡ true) × LowAndHigh low high)
+
+-- The first that applies: 2 before 25,
+abbrev pub OutOfRangeRefused : Type 0
+OutOfRangeRefused = (low high : StoreyWall) → (in_range low && in_range high) ≡ false → check low high ≡ Err 2
+
+-- .. and 25 exactly where two records in range are not so.
+abbrev pub RefusedAs25Exactly : Type 0
+RefusedAs25Exactly =
+    (low high : StoreyWall) →
+    (check low high ≡ Err 25) ↔ ((in_range low ≡ true) × (in_range high ≡ true) × (LowAndHigh low high → ⊥))
 
 -- "every record between them is accepted", "none is", "otherwise"
 
