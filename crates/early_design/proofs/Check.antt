@@ -17,6 +17,16 @@ use Rattle.early_design.specs.Check.{low_above_high, with_six_of, same_numbers, 
 use Rattle.early_design.specs.declared.RangeAnswer.{RangeAnswer}
 use Rattle.early_design.specs.Claims.{LowAndHigh, NotRefusedExactly, OutOfRangeRefused, RefusedAs25Exactly}
 
+-- The first refusal that applies is 2, where it applies.
+
+pub out_of_range_refused : OutOfRangeRefused
+unfolding first_or
+out_of_range_refused low high = by_low (in_range low) refl
+  where
+    by_low : (b : Bool) → in_range low ≡ b → (b && in_range high) ≡ false → check low high ≡ Err 2
+    by_low true passed failed = rw (passed, failed) refl
+    by_low false failed either = rw failed refl
+
 same_numbers_are : (ns ms : List ℕ) → same_numbers ns ms ≡ true → ns ≡ ms
 same_numbers_are [] [] same = refl
 same_numbers_are [] (m ∷ ms) same = absurd (true≢false (sym same))
@@ -93,15 +103,7 @@ module _ (low high : StoreyWall) where
   pub not_refused : in_range low ≡ true → in_range high ≡ true → not_low_and_high low high ≡ false → NoneApplies (refusals low high)
   not_refused low_passed high_passed agree = (ap not low_passed, (ap not high_passed, (agree, tt)))
 
--- The first refusal that applies.
-
-pub out_of_range_refused : OutOfRangeRefused
-unfolding first_or
-out_of_range_refused low high = by_low (in_range low) refl
-  where
-    by_low : (b : Bool) → in_range low ≡ b → (b && in_range high) ≡ false → check low high ≡ Err 2
-    by_low true passed failed = rw (passed, failed) refl
-    by_low false failed either = rw failed refl
+-- And 25 where it does not.
 
 refusal_number : Result RangeAnswer ℕ → ℕ
 refusal_number given = (range_result given).refusal

@@ -1,7 +1,7 @@
 -- The entries of document 02, #109: each claim by citing what was proved of the records, and of lines and rows.
 use Rattle.std.proofs.Common.{Option, Some, None}
 use Prim.Native.Nat.{ℕ, ◌^◌}
-use mathlib.Core.Bool.{Bool, true, false, true≢false, not}
+use mathlib.Core.Bool.{Bool, true, false, true≢false, cond, not}
 use mathlib.Core.List.{List}
 use mathlib.Core.Logic.{◌⊎◌, inl, inr, ◌↔◌}
 use mathlib.Core.Path.{◌≡◌, ◌∙◌, refl, sym, ap, ap₂}
@@ -63,7 +63,7 @@ pub range_lines_of_records : RangeLinesOfRecords
 range_lines_of_records low high nine nine' =
     ap₂ (λ (l h : Option StoreyWall). range_result (range_read l h)) (read_storey_complete low nine) (read_storey_complete high nine')
 
--- 2, of two records
+-- 2
 
 first_refused : (low high : StoreyWall) → in_range low ≡ false → range_result (check low high) ≡ refused 2
 unfolding first_or
@@ -72,6 +72,9 @@ first_refused low high failed = rw failed refl
 second_refused : (low high : StoreyWall) → in_range low ≡ true → in_range high ≡ false → range_result (check low high) ≡ refused 2
 unfolding first_or
 second_refused low high passed failed = rw (passed, failed) refl
+
+high_missing_refused : (low : StoreyWall) → in_range low ≡ false → range_result (range_read (Some low) None) ≡ refused 2
+high_missing_refused low failed = ap (λ (passed : Bool). range_result (Err (cond passed 1 2))) failed
 
 -- 1
 
@@ -99,7 +102,7 @@ high_missing : (low high : List ℕ) (wall : StoreyWall) → StoreyLine low wall
     (b : Bool) → in_range wall ≡ b → range_result (range_read (Some wall) None) ≡ refused 1 → HighMissing low high
 high_missing low high wall is none true passed one = (wall, (is, passed, none))
 high_missing low high wall is none false failed one =
-    absurd (let no· : ⊥ = omega (arith, ap (λ (r : RangeResult). r.refusal) (rw failed at one)) in no·)
+    absurd (let no· : ⊥ = omega (arith, ap (λ (r : RangeResult). r.refusal) (sym one ∙ high_missing_refused wall failed)) in no·)
 
 refused_1_from : (low high : List ℕ) (l h : Option StoreyWall) → read_storey low ≡ l → read_storey high ≡ h →
     range_result (range_read l h) ≡ refused 1 → NotStoreyLine low ⊎ HighMissing low high

@@ -1,0 +1,5 @@
+-- `wallcheck_range_rows` meets its contract: the answer for what it is handed.
+use Rattle.c_interface.proofs.wallcheck_range_rows.Goals as goal
+
+pub returns : goal.returns
+returns c = c.check.ensures
