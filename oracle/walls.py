@@ -434,8 +434,8 @@ def refused_range(low, high):
 
 
 def check_range(low, high):
-    """The result of two storey records. A number out of range is 2, "low record first"; then 25; "a refusal stands with 0
-    in place of the 1, 2 or 3"."""
+    """The result of two storey records. A number out of range is 2, "low record first"; then 25; "a refusal stands with
+    0 in place of the 1, 2 or 3"."""
     if not storey_in_range(low) or not storey_in_range(high):
         return RangeResult(2, 0)
     if refused_range(low, high):
