@@ -680,10 +680,11 @@ def small_ranges(numbers):
 
 
 def wide_ranges(numbers):
-    """Pairs of records between which any number of records lies."""
+    """Pairs of records between which any number of records lies; a line can hold each of them."""
     ends = [getattr(STOREY_RANGES, name)[1] for name in RANGE_NUMBERS]
     while True:
         wall = near_a_verdict(numbers, wide_storey(numbers) if numbers.one_in(5) else moderate_storey(numbers))
+        wall = StoreyWall(*(min(number, LARGEST) for number in wall))
         widths = [0 if numbers.one_in(3) else end >> numbers.within(0, 24) for end in ends]
         yield now_and_then_refused(numbers, range_around(numbers, wall, widths))
 
