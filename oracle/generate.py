@@ -613,13 +613,22 @@ def tall_calcium_silicate(numbers, wall):
                          mark=1, wind=numbers.within(0, 1250))
 
 
+def slender(numbers, wall):
+    """An inner wall with E = 270t or above it, with hardly any load."""
+    t = numbers.one_of((240, 300, 365))
+    wall = wall._replace(use=1, t=t, a=t, held=2, c=0, G=1, Q=0)
+    return wall._replace(h=540 * t // factor_r(wall) + numbers.within(0, 1))
+
+
 def near_a_verdict(numbers, wall):
-    """The wall with its load, or another number that may differ, where a verdict changes."""
-    kind = numbers.within(1, 10)
+    """The wall with its load, or another number that may differ, where a verdict changes; or as slender as is allowed."""
+    kind = numbers.within(1, 11)
     if kind <= 4:
         return loaded_to_the_resistance(numbers, wall)
     if kind == 5:
         return tall_calcium_silicate(numbers, wall)
+    if kind == 11:
+        return slender(numbers, wall)
     name, values = (('F', (179, 180)), ('q', (3000, 3001)), ('q', (5000, 5001)), ('L', (6000, 6001)),
                     ('H', (20000, 20001)))[kind - 6]
     loads = {'G': numbers.within(1, 20000), 'Q': numbers.within(0, 20000)}

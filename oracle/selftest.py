@@ -127,6 +127,9 @@ RANGES = [
     (S(L=1, support=4), S(L=20000, support=4), 1),
     (S(h=3600, mark=1, F=400), S(h=3600, mark=1), 1), (S(h=3600, mark=1, F=349), S(h=3600, mark=1), 3),
     (S(h=3600, mark=1, F=1), S(h=3600, mark=1, F=349), 2), (S(h=2751, F=1), S(h=2751, F=5000), 2),
+    # E is 270t for h=7200 and above it for h=7201
+    (S(t=240, a=240, h=7200, G=1, Q=0), S(t=240, a=240, h=7200, G=1, Q=1), 1),
+    (S(t=240, a=240, h=7201, G=1, Q=0), S(t=240, a=240, h=7201, G=1, Q=1), 2),
     # both accepted, and the one with F=298 and G=161732 is not; both refused, and A is not
     (S(F=298), S(G=161732), 3), (S(F=297), S(G=161733), 3), (S(F=179), S(q=5001), 3),
     # all six

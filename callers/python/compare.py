@@ -4,7 +4,8 @@ and rows with lines; lines and rows of the minimum load and of ranges; texts and
     python3 callers/python/compare.py libwallcheck.so [LINES ROWS RECORDS MINIMUM RANGES TEXTS BLOCKS]
 
 Without numbers 200000 lines, 200000 rows and 100000 records are compared, 120000 lines and as many rows of the minimum
-load, 8748 small ranges, twice as many wide ones, lines of ranges and rows of ranges, 20000 texts and 100000 blocks.
+load, 6561 small ranges, as many wide ones, twice as many other pairs of lines and three times as many of rows, 20000 texts
+and 100000 blocks.
 """
 
 import ctypes
@@ -239,18 +240,21 @@ def compare_range_cases(library, comparison):
 
 
 def compare_ranges(library, comparison, pairs, results):
-    """Each pair of records as lines and as rows. How many pairs there are, and how many records lie between them: the oracle
-    checks each where they are few, or, where the answer is 3, those up to the first with another verdict."""
-    compared = between = 0
+    """Each pair of records as lines and as rows. How many pairs there are, how many of them have an answer, and how many
+    records lie between these. Where few lie between two, the oracle checks each, or, where the answer is 3, as many as that
+    takes."""
+    compared = answered = between = 0
     for low, high in pairs:
         expected = walls.check_range(low, high)
         lines, words = map(walls.line_of, (low, high)), map(generate.words_of, (low, high))
         comparison.equal((low, high), range_of_lines(library, *lines), expected)
         comparison.equal((low, high), range_of_rows(library, *words), expected)
         results[expected] += 1
-        between += 0 if expected.refusal else walls.count_between(low, high)
+        if expected.refusal == 0:
+            answered += 1
+            between += walls.count_between(low, high)
         compared += 1
-    return compared, between
+    return compared, answered, between
 
 
 def compare_range_lines(library, comparison, count, results):
@@ -276,14 +280,16 @@ def compare_range_rows(library, comparison, count, results):
 def compare_all_ranges(library, comparison, count):
     """What is compared, and how often each answer and each refusal comes, in words."""
     results = Counter()
-    small, between = compare_ranges(library, comparison, islice(generate.small_ranges(generate.Numbers(17)), count), results)
-    wide, _ = compare_ranges(library, comparison, islice(generate.wide_ranges(generate.Numbers(18)), 2 * count), results)
+    small_pairs = islice(generate.small_ranges(generate.Numbers(17)), count)
+    small, answered, between = compare_ranges(library, comparison, small_pairs, results)
+    wide_pairs = islice(generate.wide_ranges(generate.Numbers(18)), count)
+    wide, *_ = compare_ranges(library, comparison, wide_pairs, results)
     lines = compare_range_lines(library, comparison, 2 * count, results)
-    rows = compare_range_rows(library, comparison, 2 * count, results)
+    rows = compare_range_rows(library, comparison, 3 * count, results)
     answers = ', '.join(f'{results[0, answer]} of {answer}' for answer in (1, 2, 3))
     refusals = ', '.join(f'{results[refusal, 0]} of {refusal}' for refusal in (1, 2, 25))
-    return (f'{small} ranges with {between} records between and {wide} wide ones, {lines} other pairs of lines and {rows} of '
-            f'rows, in all answers {answers}, refusals {refusals}')
+    return (f'{small} small ranges, {answered} of them with an answer and together {between} records between, {wide} wide ones, '
+            f'{lines} other pairs of lines and {rows} of rows of ranges, with the answers {answers} and the refusals {refusals}')
 
 
 def count_of_archive(library, text):
@@ -432,7 +438,7 @@ def main():
     if len(sys.argv) not in (2, 9):
         sys.exit(__doc__)
     lines, rows, records, minimum, ranges, texts, blocks = map(
-        int, sys.argv[2:] or (200000, 200000, 100000, 120000, 8748, 20000, 100000))
+        int, sys.argv[2:] or (200000, 200000, 100000, 120000, 6561, 20000, 100000))
     library, comparison = Library(str(Path(sys.argv[1]).resolve())), Comparison()
     cases = (compare_cases(library, comparison) + compare_minimum_load_cases(library, comparison)
              + compare_range_cases(library, comparison) + compare_archive_cases(library, comparison))
