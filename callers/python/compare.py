@@ -4,8 +4,8 @@ and rows with lines; lines and rows of the minimum load and of ranges; texts and
     python3 callers/python/compare.py libwallcheck.so [LINES ROWS RECORDS MINIMUM RANGES TEXTS BLOCKS]
 
 Without numbers 200000 lines, 200000 rows and 100000 records are compared, 120000 lines and as many rows of the minimum
-load, 6561 small ranges, as many wide ones, twice as many other pairs of lines and three times as many of rows, 20000 texts
-and 100000 blocks.
+load, 6561 small ranges, as many wide ones, twice as many other pairs of lines and three times as many of rows,
+20000 texts and 100000 blocks.
 """
 
 import ctypes
@@ -288,8 +288,9 @@ def compare_all_ranges(library, comparison, count):
     rows = compare_range_rows(library, comparison, 3 * count, results)
     answers = ', '.join(f'{results[0, answer]} of {answer}' for answer in (1, 2, 3))
     refusals = ', '.join(f'{results[refusal, 0]} of {refusal}' for refusal in (1, 2, 25))
-    return (f'{small} small ranges, {answered} of them with an answer and together {between} records between, {wide} wide ones, '
-            f'{lines} other pairs of lines and {rows} of rows of ranges, with the answers {answers} and the refusals {refusals}')
+    return (f'{small} small ranges, {answered} of them with an answer and together {between} records between, '
+            f'{wide} wide ones, {lines} other pairs of lines and {rows} of rows of ranges, '
+            f'with the answers {answers} and the refusals {refusals}')
 
 
 def count_of_archive(library, text):
