@@ -21,3 +21,8 @@ wallcheck_result rows_minimum_load_into(const wallcheck_cells *cells, double win
 {
     return wallcheck_minimum_load_row_into(*cells, wind, out, out_len);
 }
+
+wallcheck_range rows_range(const wallcheck_cells *low, const wallcheck_cells *high)
+{
+    return wallcheck_range_rows(*low, *high);
+}

@@ -30,7 +30,8 @@ extern "C" {
  * 18 load above the resistance, 19 dead load below the required one;
  * 20 output buffer under 64 bytes;
  * the functions of the minimum load alone: 21 dead load below the minimum load.
- * Refusals other than 13, 18, 19 and 21 leave the other four numbers 0. */
+ * Refusals other than 13, 18, 19 and 21 leave the other four numbers 0.
+ * 23 and 24 come with wallcheck_archived alone, 25 with wallcheck_range alone. */
 typedef struct {
     uint64_t refusal;        /* 0 accepted, else the first refusal that applies */
     uint64_t length_or_need; /* storey wall: buckling length in tenths of a mm; cellar wall: required dead load;
@@ -76,6 +77,13 @@ typedef struct {
     double wind;            /* characteristic wind load in N/m2, 0..10000; it enters the height limit of calcium
                              * silicate walls alone */
 } wallcheck_cells;
+
+/* What the functions of ranges return: refusal 0 and an answer; or refusal 1, 2 or 25 and answer 0. */
+typedef struct {
+    uint64_t refusal; /* 0; 1 not a storey wall's line; 2 a number out of range; 25 a low value above its high value, or
+                       * another number that differs */
+    uint64_t answer;  /* 1 every record between is accepted; 2 none is; 3 some are and others are not */
+} wallcheck_range;
 
 /* What the functions of the archive return: refusal 0 and a count; or refusal 23 or 24 and count 0. */
 typedef struct {
@@ -127,6 +135,20 @@ wallcheck_result wallcheck_minimum_load_row(wallcheck_cells cells, double wind);
 
 /* The same, and the result as text in `out`, as in wallcheck_line_into. */
 wallcheck_result wallcheck_minimum_load_row_into(wallcheck_cells cells, double wind, uint8_t *out, size_t out_len);
+
+/* Early design with ranges: whether a storey wall is accepted while loads, strength, span and building height are known
+ * only as ranges. `low` and `high` are lines of the form S and 19 numbers that agree except in G, Q, F, L, q and H, where
+ * `low` has the low value of each and `high` the high one; with M above 0 they agree in L too. A record lies between them
+ * if each of its numbers does, ends included. The answer is 1 if every record between them is accepted, as wallcheck_line
+ * accepts it, 2 if none is, 3 otherwise, each exactly then.
+ *
+ * A line that is not of this form, a cellar wall's among them, is refusal 1, a number out of range refusal 2; what the low
+ * line has comes before what the high line has. Refusal 25, behind both: a low value is above its high value, or another
+ * number differs, L with M above 0 included. `low` and `high` may overlap or be the same. */
+wallcheck_range wallcheck_range_lines(const uint8_t *low, size_t low_len, const uint8_t *high, size_t high_len);
+
+/* The same for two worksheet rows. */
+wallcheck_range wallcheck_range_rows(wallcheck_cells low, wallcheck_cells high);
 
 /* Archived schedules: lines, each ended by byte 10, in blocks of 512 bytes, so that one bad block costs its own lines
  * alone. Bytes 0 and 1 of a block hold the number of bytes used, at most 508, low byte first; bytes 2 and 3 the sum of

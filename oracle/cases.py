@@ -1,5 +1,5 @@
-"""The acceptance cases, which all callers read: callers/cases.txt and callers/rows.txt, those of the minimum load and those
-of the archive."""
+"""The acceptance cases, which all callers read: callers/cases.txt and callers/rows.txt, those of the minimum load, of ranges
+and of the archive."""
 
 from pathlib import Path
 
@@ -61,6 +61,18 @@ def read_minimum_load_rows():
     """The 19 cells of each row, the cell of the design wind, and the result."""
     for (row, wind), (result,) in read('minimum_load_rows.txt', before=2).items():
         yield cells_of(row), float(wind), result
+
+
+def read_range_lines():
+    """The low and the high record's line, with refusal and answer."""
+    for (low, high), (result,) in read('range_lines.txt', before=2).items():
+        yield low, high, result
+
+
+def read_range_rows():
+    """The 19 cells of the low and of the high row, with refusal and answer."""
+    for (low, high), (result,) in read('range_rows.txt', before=2).items():
+        yield cells_of(low), cells_of(high), result
 
 
 def bytes_of(column):

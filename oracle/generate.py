@@ -13,11 +13,11 @@ import math
 import random
 import struct
 import sys
-from itertools import chain, islice
+from itertools import chain, cycle, islice, product
 
 from cases import read_lines
-from walls import (A, CELLAR_RANGES, CellarWall, K, STOREY_RANGES, StoreyWall, WIND_RANGE, check, exact_load, factor_r,
-                   general_load, greatest_height, line_of, minimum_load, need, row_of)
+from walls import (A, CELLAR_RANGES, CellarWall, K, RANGE_NUMBERS, STOREY_RANGES, StoreyWall, WIND_RANGE, check,
+                   exact_load, factor_r, general_load, greatest_height, line_of, minimum_load, need, row_of)
 
 LARGEST = 999999999
 S, C = A._replace, K._replace
@@ -586,6 +586,152 @@ def rows_with_wind(count):
                   ([*words_of(wall), word] for wall in STOREY_WALLS for word in wind_cells()),
                   ([*words, bits(780.0)] for words in chain(rows_at_cell_edges(), rows_of_holdings())))
     return islice(chain(edges, random_rows_with_wind(Numbers(7))), count)
+
+
+# ---- A low and a high record: document 02, #109
+
+# By how much the high record is above the low one in each number that may differ: one to three values, in every
+# combination.
+SMALL_WIDTHS = tuple(product(range(3), repeat=len(RANGE_NUMBERS)))
+OTHER_NUMBERS = tuple(name for name in StoreyWall._fields if name not in RANGE_NUMBERS)
+
+
+def loaded_to_the_resistance(numbers, wall):
+    """The wall with loads that are about its resistance, where it has one."""
+    resistance = check(wall).resistance
+    Q = numbers.within(0, resistance // 2)
+    # The load is the smaller of both formulas up to q = 3000, and so reaches the resistance with the greater G.
+    general, simplified = (100 * resistance - 150 * Q) // 135, 100 * resistance // 140 - Q
+    G = general if wall.q > 3000 else max(general, simplified)
+    return wall._replace(G=max(1, G + numbers.within(-2, 2)), Q=Q)
+
+
+def tall_calcium_silicate(numbers, wall):
+    """The wall with a height of #102 or beside it, F where that height begins, and hardly any load."""
+    t = numbers.one_of((175, 175, 200, 240))
+    return wall._replace(t=t, a=t, h=numbers.one_of((2751, 3000, 3001, 3300)), F=numbers.one_of((350, 500)), G=1, Q=0,
+                         mark=1, wind=numbers.within(0, 1250))
+
+
+def slender(numbers, wall):
+    """An inner wall with E = 270t or above it, with hardly any load."""
+    t = numbers.one_of((240, 300, 365))
+    wall = wall._replace(use=1, t=t, a=t, held=2, c=0, G=1, Q=0)
+    return wall._replace(h=540 * t // factor_r(wall) + numbers.within(0, 1))
+
+
+def near_a_verdict(numbers, wall):
+    """The wall with its load, or another number that may differ, where a verdict changes; or as slender as is allowed."""
+    kind = numbers.within(1, 11)
+    if kind <= 4:
+        return loaded_to_the_resistance(numbers, wall)
+    if kind == 5:
+        return tall_calcium_silicate(numbers, wall)
+    if kind == 11:
+        return slender(numbers, wall)
+    name, values = (('F', (179, 180)), ('q', (3000, 3001)), ('q', (5000, 5001)), ('L', (6000, 6001)),
+                    ('H', (20000, 20001)))[kind - 6]
+    loads = {'G': numbers.within(1, 20000), 'Q': numbers.within(0, 20000)}
+    return wall._replace(**loads, **{name: numbers.one_of(values)})
+
+
+def range_around(numbers, wall, widths):
+    """A low and a high record with these widths. The wall has the greatest loads, span and building height and the
+    least strength of the records between, or the opposite of these, or lies anywhere between. Where L differs M is 0."""
+    place, low, high = numbers.within(1, 3), {}, {}
+    if widths[RANGE_NUMBERS.index('L')] > 0:
+        wall = wall._replace(M=0)
+    for name, width in zip(RANGE_NUMBERS, widths):
+        least, greatest = getattr(STOREY_RANGES, name)
+        at_high_end = (place == 1) != (name == 'F')
+        below = numbers.within(0, width) if place == 3 else width if at_high_end else 0
+        low[name] = max(least, getattr(wall, name) - below)
+        high[name] = min(greatest, low[name] + width)
+    return wall._replace(**low), wall._replace(**high)
+
+
+def with_bad_range(numbers, low, high):
+    """The pair with a low value above its high one, with another number that differs, or with L that differs and M
+    above 0."""
+    kind = numbers.within(1, 3)
+    if kind == 1:
+        name = numbers.one_of(RANGE_NUMBERS)
+        return low._replace(**{name: getattr(high, name) + numbers.one_of((1, 1, 100))}), high
+    if kind == 2:
+        name = numbers.one_of(OTHER_NUMBERS)
+        return low, high._replace(**{name: max(0, getattr(high, name) + numbers.one_of((-1, 1)))})
+    M = numbers.one_of((1, 6000, 12000))
+    return low._replace(M=M), high._replace(M=M, L=high.L + numbers.one_of((-1, 1)))
+
+
+def with_number_out_of_range(numbers, low, high):
+    """The pair with a number out of range in the low record, the high one or both."""
+    place, which = numbers.within(0, len(low) - 1), numbers.within(1, 3)
+    least, greatest = STOREY_RANGES[place]
+    beyond = numbers.one_of((greatest + 1, LARGEST, least - 1 if least > 0 else greatest + 1))
+    changed = {StoreyWall._fields[place]: beyond}
+    return low._replace(**changed) if which != 1 else low, high._replace(**changed) if which != 2 else high
+
+
+def now_and_then_refused(numbers, pair):
+    """Two of six pairs with something that is mostly refused, as 2 or as 25."""
+    kind = numbers.within(1, 6)
+    if kind == 1:
+        return with_bad_range(numbers, *pair)
+    return with_number_out_of_range(numbers, *pair) if kind == 2 else pair
+
+
+def small_ranges(numbers):
+    """Pairs of records between which at most 729 lie, 64 on average where none is beyond its range."""
+    for widths in cycle(SMALL_WIDTHS):
+        wall = near_a_verdict(numbers, moderate_storey(numbers))
+        yield now_and_then_refused(numbers, range_around(numbers, wall, widths))
+
+
+def wide_ranges(numbers):
+    """Pairs of records between which any number of records lies; a line can hold each of them."""
+    ends = [getattr(STOREY_RANGES, name)[1] for name in RANGE_NUMBERS]
+    while True:
+        wall = near_a_verdict(numbers, wide_storey(numbers) if numbers.one_in(5) else moderate_storey(numbers))
+        wall = StoreyWall(*(min(number, LARGEST) for number in wall))
+        widths = [0 if numbers.one_in(3) else end >> numbers.within(0, 24) for end in ends]
+        yield now_and_then_refused(numbers, range_around(numbers, wall, widths))
+
+
+def random_range_lines(numbers):
+    """Pairs of lines of which the low one, the high one or both are damaged or a cellar wall's."""
+    for pair in wide_ranges(numbers):
+        lines = list(map(line_of, pair))
+        for place in numbers.one_of(((0,), (1,), (0, 1))):
+            cellar = numbers.one_in(3)
+            lines[place] = line_of(moderate_cellar(numbers)) if cellar else random_damage(numbers, lines[place])
+        yield tuple(lines)
+
+
+def range_lines(count):
+    """Each case of a line beside A, as the low and as the high line, then random pairs."""
+    line = line_of(A)
+    edges = chain.from_iterable(((other, line), (line, other)) for other in read_lines())
+    return islice(chain(dict.fromkeys(edges), random_range_lines(Numbers(14))), count)
+
+
+def random_range_rows(numbers):
+    """Pairs of rows, every second with one cell of the low row, the high one or both that has other bits."""
+    for pair in wide_ranges(numbers):
+        low, high = map(words_of, pair)
+        place, which = numbers.within(0, len(low) - 1), numbers.within(1, 6)
+        word = numbers.one_of((low[place] ^ 1 << numbers.within(0, 63), high[place] ^ SIGN, numbers.one_of(SPECIAL)))
+        yield (with_word(low, place, word) if which in (1, 3) else low,
+               with_word(high, place, word) if which in (2, 3) else high)
+
+
+def range_rows(count):
+    """The words of both rows: each row at an edge of a cell beside A, as the low row, as the high one and as both, then
+    random pairs."""
+    words = words_of(A)
+    edges = chain.from_iterable(((other, words), (words, other), (other, other))
+                                for other in chain(rows_at_cell_edges(), rows_of_holdings()))
+    return islice(chain(edges, random_range_rows(Numbers(15))), count)
 
 
 def main():

@@ -4,16 +4,18 @@ with both.
     python3 oracle/selftest.py
 """
 
-from itertools import product
+from itertools import islice, product
 from math import inf, nan, nextafter
 
 import archive
 from archive_inputs import GOOD_BLOCKS, HALF_FILLED, with_byte
 from cases import (read_archive_blocks, read_archive_texts, read_lines, read_minimum_load_lines, read_minimum_load_rows,
-                   read_rows)
-from walls import (A, K, StoreyWall, beginning_pattern, buckling_length, cellar_load, check, check_line,
-                   check_minimum_load, check_minimum_load_line, check_minimum_load_row, check_row, greatest_height, lent,
-                   line_of, line_pattern, minimum_load, need, refused, row_of, schedule, span_reduced, storey_load,
+                   read_range_lines, read_range_rows, read_rows)
+from generate import Numbers, small_ranges
+from walls import (A, K, StoreyWall, answer_by_corners, beginning_pattern, buckling_length, cellar_load, check,
+                   check_line, check_minimum_load, check_minimum_load_line, check_minimum_load_row, check_range,
+                   check_range_lines, check_range_rows, check_row, greatest_height, lent, line_of, line_pattern,
+                   minimum_load, need, records_between, refused, row_of, schedule, span_reduced, storey_load,
                    storey_resistance, taken, text, whole_number)
 
 S, C = A._replace, K._replace
@@ -98,6 +100,63 @@ MINIMUM_LOADS = [
     (S(a=100), 780, (10, 0, 0, 0, 0)),
     (A, 1, (0, 8, 210000, 352425, 142425)), (A, 10000, (21, 77714, 210000, 352425, 142425)),
     (A, 0, (2, 0, 0, 0, 0)), (A, 10001, (2, 0, 0, 0, 0)), (S(t=114, a=114), 0, (2, 0, 0, 0, 0)),
+]
+
+# Document 02, #109: a low and a high record and the answer. A has N 210000 and the resistance 352425.
+RANGES = [
+    (A, A, 1), (S(G=200000), S(G=200000), 2), (S(F=179), S(F=179), 2), (S(support=2, L=6000, M=12000),) * 2 + (1,),
+    # 1.4(G + Q) is 352424.8 where G + Q is 251732, and 352426.2 where it is 251733
+    (A, S(G=161732), 1), (A, S(G=161733), 3), (S(G=161732), S(G=161733), 3), (S(G=161733), S(G=161734), 2),
+    (A, S(Q=191732), 1), (A, S(Q=191733), 3), (S(Q=191733), S(Q=10000000), 2),
+    # the resistance is 704.85F, 210045 for F=298, 209340 for F=297 and 126873 for F=180; N is 126001 for G=1
+    (S(F=298), A, 1), (S(F=297), A, 3), (S(F=1), S(F=297), 2), (S(F=180, G=1), S(F=181, G=1), 1),
+    (S(F=179, G=1), S(F=180, G=1), 3), (S(F=178, G=1), S(F=179, G=1), 2),
+    # support 2: the resistance is 297500 for L=6000 and greater for L=5999; 1.4(G + Q) is 297500 for G=122500
+    (S(support=2, G=122500, L=1), S(support=2, G=122500, L=6000), 1),
+    (S(support=2, G=122501, L=5999), S(support=2, G=122501, L=6000), 3),
+    (S(support=2, G=122501, L=6000), S(support=2, G=122501, L=6000), 2),
+    # with G=161732 N is 352425 up to q=3000 and 353338 above
+    (S(G=161732, q=0), S(G=161732, q=3000), 1), (S(G=161732, q=0), S(G=161732, q=3001), 3),
+    (S(G=161732, q=3001), S(G=161732, q=5000), 2),
+    # limits
+    (S(q=0), S(q=5000), 1), (S(q=0), S(q=5001), 3), (S(q=5001), S(q=100000), 2),
+    (S(use=2, t=150, a=150, Q=0), S(use=2, t=150, a=150, Q=0, q=3000), 1),
+    (S(use=2, t=150, a=150, Q=0), S(use=2, t=150, a=150, Q=0, q=3001), 3),
+    (S(H=1), S(H=20000), 1), (S(H=1), S(H=20001), 3), (S(H=20001), S(H=200000), 2),
+    (S(L=1), S(L=6000), 1), (S(L=1), S(L=6001), 3), (S(L=6001), S(L=20000), 2),
+    (S(L=1, support=4), S(L=20000, support=4), 1),
+    (S(h=3600, mark=1, F=400), S(h=3600, mark=1), 1), (S(h=3600, mark=1, F=349), S(h=3600, mark=1), 3),
+    (S(h=3600, mark=1, F=1), S(h=3600, mark=1, F=349), 2), (S(h=2751, F=1), S(h=2751, F=5000), 2),
+    # E is 270t for h=7200 and above it for h=7201
+    (S(t=240, a=240, h=7200, G=1, Q=0), S(t=240, a=240, h=7200, G=1, Q=1), 1),
+    (S(t=240, a=240, h=7201, G=1, Q=0), S(t=240, a=240, h=7201, G=1, Q=1), 2),
+    # both accepted, and the one with F=298 and G=161732 is not; both refused, and A is not
+    (S(F=298), S(G=161732), 3), (S(F=297), S(G=161733), 3), (S(F=179), S(q=5001), 3),
+    # all six
+    (S(G=59999, Q=89999, F=499, L=4999, q=2249, H=8999), A, 1),
+    (A, S(G=60001, Q=90001, F=501, L=5001, q=2251, H=9001), 1),
+    (S(G=1, Q=0, F=1, L=1, q=0, H=1), S(G=10000000, Q=10000000, F=5000, L=20000, q=100000, H=200000), 3),
+    (S(h=2751, G=1, Q=0, F=1, L=1, q=0, H=1),
+     S(h=2751, G=10000000, Q=10000000, F=5000, L=20000, q=100000, H=200000), 2),
+]
+# .. and what is refused as 25
+BAD_RANGES = [
+    (S(G=60001), A), (S(Q=90001), A), (S(F=501), A), (S(L=5001), A), (S(q=2251), A), (S(H=9001), A),
+    (A, S(use=2)), (A, S(t=176)), (A, S(h=2626)), (A, S(h=2624)), (A, S(w=5001)), (A, S(support=2)), (A, S(a=174)),
+    (A, S(bonded=1)), (A, S(n=4)), (A, S(n=2)), (A, S(M=1)), (S(M=1), A), (A, S(mark=1)), (A, S(wind=1)),
+    (S(held=3, c=1500), S(held=4, c=1500)), (S(held=3, c=1500), S(held=3, c=1501)), (A, S(held=3, c=1500)),
+    (S(M=1), S(M=1, L=5001)), (S(M=20000, L=5001), S(M=20000)), (S(G=60001, h=3000), S(F=100, t=200)),
+]
+# .. and two lines with a refusal: that of the low line comes first, and 1 and 2 of either before 25
+RANGE_REFUSALS = [
+    (b'', b'', 1), (b'S 175', line_of(A), 1), (line_of(A), b'S 175', 1), (line_of(K), line_of(K), 1),
+    (line_of(A), line_of(K), 1),
+    (line_of(C(t=1001)), line_of(A), 1), (line_of(C(t=1001)), line_of(S(a=176)), 1), (b'S 175', line_of(S(a=176)), 1),
+    (line_of(S(a=176)), b'S 175', 2), (line_of(S(a=176)), line_of(K), 2), (line_of(S(a=176)), line_of(A), 2),
+    (line_of(A), line_of(S(a=176)), 2), (line_of(A), line_of(A) + b' ', 1), (line_of(S(G=60001)), line_of(S(a=176)), 2),
+    (line_of(S(G=60001)), b'S 175', 1), (line_of(S(G=0)), line_of(A), 2), (line_of(A), line_of(S(H=200001)), 2),
+    (line_of(S(t=114)), line_of(A), 2), (line_of(S(t=114, a=114)), line_of(A), 25),
+    (line_of(S(G=200000)), line_of(A), 25),
 ]
 
 # Document 02, #103 and #108: G, Q, N for q up to 3000, and N above 3000 and for a cellar wall.
@@ -265,6 +324,38 @@ def minimum_loads():
         agree(f'minimum load with a cell {cell}', check_minimum_load_row(row_of(A), cell), refused(2))
 
 
+def ranges():
+    for low, high, answer in RANGES:
+        what = f'range from {line_of(low)} to {line_of(high)}'
+        agree(what, check_range(low, high), (0, answer))
+        agree(f'lines of the {what}', check_range_lines(line_of(low), line_of(high)), (0, answer))
+        agree(f'rows of the {what}', check_range_rows(row_of(low), row_of(high)), (0, answer))
+        agree(f'corners of the {what}', answer_by_corners(low, high), answer)
+    for low, high in BAD_RANGES:
+        what = f'range from {line_of(low)} to {line_of(high)}'
+        agree(f'lines of the {what}', check_range_lines(line_of(low), line_of(high)), (25, 0))
+        agree(f'rows of the {what}', check_range_rows(row_of(low), row_of(high)), (25, 0))
+    for low, high, number in RANGE_REFUSALS:
+        agree(f'refusal of {low} and {high}', check_range_lines(low, high), (number, 0))
+    for cell in (60000.5, nextafter(60000, 0), 0.0, -1.0, inf, nan):
+        row = row_of(A)
+        row[StoreyWall._fields.index('G')] = cell
+        for low, high in ((row, row_of(A)), (row_of(A), row), (row, row)):
+            agree(f'range of rows with a cell {cell}', check_range_rows(low, high), (2, 0))
+    agree('records between', set(records_between(S(F=499), S(G=60002))),
+          {S(F=499), S(F=499, G=60001), S(F=499, G=60002), A, S(G=60001), S(G=60002)})
+    agree('records between two that are alike', list(records_between(A, A)), [A])
+
+
+def corners_of_ranges():
+    """Demand 3: the two records of answer_by_corners give what the definition gives, which check_range runs for so few
+    records as here."""
+    for low, high in islice(small_ranges(Numbers(16)), 3000):
+        refusal, answer = check_range(low, high)
+        if refusal == 0:
+            agree(f'corners of the range from {line_of(low)} to {line_of(high)}', answer_by_corners(low, high), answer)
+
+
 def archives():
     for stored, blocks in ARCHIVES:
         size = 512 * len(blocks)
@@ -336,6 +427,10 @@ def callers():
         agree(f'minimum load of {line}, W={W}', check_minimum_load_line(line, W), result)
     for cells, wind, result in read_minimum_load_rows():
         agree(f'minimum load of row {cells}, W={wind}', check_minimum_load_row(cells, wind), result)
+    for low, high, result in read_range_lines():
+        agree(f'range from {low} to {high}', check_range_lines(low, high), result)
+    for low, high, result in read_range_rows():
+        agree(f'range of rows from {low} to {high}', check_range_rows(low, high), result)
     for wall in records():
         agree(f'{line_of(wall)} stands in callers/cases.txt', line_of(wall) in lines, True)
     for stored, result, blocks in read_archive_texts():
@@ -350,6 +445,8 @@ def callers():
 if __name__ == '__main__':
     documents()
     minimum_loads()
+    ranges()
+    corners_of_ranges()
     archives()
     archive_programs()
     bytes_taken()

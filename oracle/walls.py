@@ -7,7 +7,8 @@ document 01's order and with its letters, to be read beside it. Programs compare
 import re
 from collections import namedtuple
 from fractions import Fraction
-from math import ceil, floor, inf, isfinite
+from itertools import product
+from math import ceil, floor, inf, isfinite, prod
 
 # ---- The two lines
 
@@ -375,6 +376,87 @@ def check_minimum_load_line(line, W):
     return refused(1) if wall is None else check_minimum_load(wall, W)
 
 
+# ---- Document 02, #109: early design with ranges
+
+RangeResult = namedtuple('RangeResult', 'refusal answer')
+
+# What the low and the high record may differ in.
+RANGE_NUMBERS = ('G', 'Q', 'F', 'L', 'q', 'H')
+
+
+def count_between(low, high):
+    """How many records lie between two that are not refused as 25."""
+    return prod(upper - lower + 1 for lower, upper in zip(low, high))
+
+
+def records_between(low, high):
+    """The records each of whose numbers lies between, "ends included"."""
+    return map(StoreyWall._make, product(*(range(lower, upper + 1) for lower, upper in zip(low, high))))
+
+
+def accepted(wall):
+    return check_storey(wall).refusal == 0
+
+
+def answer_by_definition(low, high):
+    """The answer: "1 if every record between them is accepted, 2 if none is, 3 otherwise". Once both an accepted and a
+    refused one are found, the records behind them can change nothing."""
+    verdicts = set()
+    for wall in records_between(low, high):
+        verdicts.add(accepted(wall))
+        if len(verdicts) == 2:
+            return 3
+    return 1 if verdicts == {True} else 2
+
+
+def answer_by_corners(low, high):
+    """The same from two records between them, the one with the greatest loads, span and building height and the least
+    strength, and the one with the least of those and the greatest strength. By demand 3 every record between them is
+    accepted if the first is, and the second is if any is; selftest.py compares this with the definition."""
+    if accepted(high._replace(F=low.F)):
+        return 1
+    return 3 if accepted(low._replace(F=high.F)) else 2
+
+
+# The definition is run where no more records than these lie between; between the widest ranges lie some 10^32.
+MOST_ENUMERATED = 4000
+
+
+def may_differ(name, wall):
+    """G, Q, F, L, q, H; "where M isn't 0, L must agree too"."""
+    return name in RANGE_NUMBERS and (name != 'L' or wall.M == 0)
+
+
+def refused_range(low, high):
+    """25: "a low value is above its high value or another number differs, L with M above 0 included"."""
+    return any(lower > upper if may_differ(name, low) else lower != upper
+               for name, lower, upper in zip(StoreyWall._fields, low, high))
+
+
+def check_range(low, high):
+    """The result of two storey records. A number out of range is 2, "low record first"; then 25; "a refusal stands with
+    0 in place of the 1, 2 or 3"."""
+    if not storey_in_range(low) or not storey_in_range(high):
+        return RangeResult(2, 0)
+    if refused_range(low, high):
+        return RangeResult(25, 0)
+    few = count_between(low, high) <= MOST_ENUMERATED
+    return RangeResult(0, answer_by_definition(low, high) if few else answer_by_corners(low, high))
+
+
+def storey_refusal(line):
+    """1 or 2 where document 01 refuses a line of a storey record so, else 0; a `C` line is refusal 1 here (#106)."""
+    wall = storey_alone(line)
+    if wall is None:
+        return 1
+    return 0 if storey_in_range(wall) else 2
+
+
+def check_range_lines(low_line, high_line):
+    refusal = storey_refusal(low_line) or storey_refusal(high_line)
+    return RangeResult(refusal, 0) if refusal else check_range(storey_alone(low_line), storey_alone(high_line))
+
+
 # ---- The text of a result
 
 def text(result):
@@ -424,3 +506,9 @@ def check_minimum_load_row(cells, wind):
     """The result of a row with the design wind, a cell like the others."""
     *numbers, W = [whole_number(cell) for cell in (*cells, wind)]
     return refused(2) if None in (*numbers, W) else check_minimum_load(StoreyWall(*numbers), W)
+
+
+def check_range_rows(low_cells, high_cells):
+    """The result of a low and a high row."""
+    low, high = ([whole_number(cell) for cell in cells] for cells in (low_cells, high_cells))
+    return RangeResult(2, 0) if None in (*low, *high) else check_range(StoreyWall(*low), StoreyWall(*high))

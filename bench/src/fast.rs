@@ -2,7 +2,10 @@
 
 pub mod archive;
 
-use crate::{filled, refused, CheckResult, Reading, Row, LONGEST_LINE, SHORTEST_BUFFER};
+use crate::{
+    filled, range_answer, range_refused, refused, CheckResult, RangeResult, Reading, Row,
+    LONGEST_LINE, SHORTEST_BUFFER,
+};
 use std::io::{self, Read, Write};
 
 const STOREY_NUMBERS: usize = 19;
@@ -226,21 +229,11 @@ fn buckling_length(t: u64, h: u64, held: u64, c: u64, a: u64) -> u64 {
     k.div_ceil(2)
 }
 
+/// The resistance where e is at most 270t.
 #[inline(always)]
-fn check_storey(numbers: &[u64; STOREY_NUMBERS]) -> CheckResult {
-    if !storey_in_range(numbers) {
-        return refused(2);
-    }
-    let limit = storey_limit(numbers);
-    if limit != 0 {
-        return refused(limit);
-    }
-    let [_, t, h, w, held, c, support, span, a, f, bonded, dead, imposed, ..] = *numbers;
-    let [.., floor_load, _, _, other, _, _] = *numbers;
-    let e = buckling_length(t, h, held, c, a);
-    if e > 270 * t {
-        return refused(12);
-    }
+fn storey_resistance(numbers: &[u64; STOREY_NUMBERS], e: u64) -> u64 {
+    let [_, t, _, w, _, _, support, span, a, f, bonded, ..] = *numbers;
+    let [.., other, _, _] = *numbers;
     // 4/5 or 5/5, over 5.
     let fifths = if w * t < 100_000 || bonded == 1 { 4 } else { 5 };
     let times = 17 * fifths * f;
@@ -253,8 +246,77 @@ fn check_storey(numbers: &[u64; STOREY_NUMBERS]) -> CheckResult {
         };
         resistance = resistance.min(times * a * m / 1_800_000);
     }
+    resistance
+}
+
+#[inline(always)]
+fn check_storey(numbers: &[u64; STOREY_NUMBERS]) -> CheckResult {
+    if !storey_in_range(numbers) {
+        return refused(2);
+    }
+    let limit = storey_limit(numbers);
+    if limit != 0 {
+        return refused(limit);
+    }
+    let [_, t, h, _, held, c, _, _, a, _, _, dead, imposed, floor_load, ..] = *numbers;
+    let e = buckling_length(t, h, held, c, a);
+    if e > 270 * t {
+        return refused(12);
+    }
+    let resistance = storey_resistance(numbers, e);
     let load = storey_load(dead, imposed, floor_load);
     filled(if load > resistance { 13 } else { 0 }, e, load, resistance)
+}
+
+// The places of the numbers in which two records of a range may differ.
+const SPAN: usize = 7;
+const STRENGTH: usize = 9;
+const DEAD: usize = 11;
+const IMPOSED: usize = 12;
+const FLOOR_LOAD: usize = 13;
+const BUILDING: usize = 14;
+
+const OTHER_SPAN: usize = 16;
+
+/// Whether a low value is above its high value or another number differs.
+#[inline(always)]
+fn bad_range(low: &[u64; STOREY_NUMBERS], high: &[u64; STOREY_NUMBERS]) -> bool {
+    // Without branches between the tests, as for the ranges.
+    let mut bad = (low[OTHER_SPAN] != 0) & (low[SPAN] != high[SPAN]);
+    for place in 0..STOREY_NUMBERS {
+        bad |= match place {
+            SPAN | STRENGTH | DEAD | IMPOSED | FLOOR_LOAD | BUILDING => low[place] > high[place],
+            _ => low[place] != high[place],
+        };
+    }
+    bad
+}
+
+/// Whether a record in range with this e, at most 270t, is accepted.
+#[inline(always)]
+fn accepted(numbers: &[u64; STOREY_NUMBERS], e: u64) -> bool {
+    let load = storey_load(numbers[DEAD], numbers[IMPOSED], numbers[FLOOR_LOAD]);
+    storey_limit(numbers) == 0 && load <= storey_resistance(numbers, e)
+}
+
+/// The result of two records in range. They have the same e.
+#[inline(always)]
+fn check_range(low: &[u64; STOREY_NUMBERS], high: &[u64; STOREY_NUMBERS]) -> RangeResult {
+    if bad_range(low, high) {
+        return range_refused(25);
+    }
+    let [_, t, h, _, held, c, _, _, a, ..] = *low;
+    let e = buckling_length(t, h, held, c, a);
+    if e > 270 * t {
+        return range_answer(2);
+    }
+    let (mut worst, mut best) = (*high, *low);
+    worst[STRENGTH] = low[STRENGTH];
+    best[STRENGTH] = high[STRENGTH];
+    if accepted(&worst, e) {
+        return range_answer(1);
+    }
+    range_answer(if accepted(&best, e) { 3 } else { 2 })
 }
 
 /// The check of the minimum load in the top storey.
@@ -471,6 +533,48 @@ fn minimum_load_row_result(row: &Row, wind_cell: f64) -> CheckResult {
     }
 }
 
+/// The numbers of a storey wall's line, in range, or refusal 1 or 2.
+#[inline(always)]
+fn range_line(line: &[u8]) -> Result<[u64; STOREY_NUMBERS], u64> {
+    if line.first() != Some(&b'S') {
+        return Err(1);
+    }
+    match read_numbers(line) {
+        Ok((numbers, at)) if at == line.len() => in_range(numbers),
+        _ => Err(1),
+    }
+}
+
+#[inline(always)]
+fn in_range(numbers: [u64; STOREY_NUMBERS]) -> Result<[u64; STOREY_NUMBERS], u64> {
+    if storey_in_range(&numbers) {
+        Ok(numbers)
+    } else {
+        Err(2)
+    }
+}
+
+#[inline(always)]
+fn range_row(row: &Row) -> Result<[u64; STOREY_NUMBERS], u64> {
+    row_numbers(row).map_or(Err(2), in_range)
+}
+
+#[inline(always)]
+fn range_result<T: ?Sized>(
+    low: &T,
+    high: &T,
+    read: impl Fn(&T) -> Result<[u64; STOREY_NUMBERS], u64>,
+) -> RangeResult {
+    let low = match read(low) {
+        Ok(numbers) => numbers,
+        Err(refusal) => return range_refused(refusal),
+    };
+    match read(high) {
+        Ok(high) => check_range(&low, &high),
+        Err(refusal) => range_refused(refusal),
+    }
+}
+
 #[inline(never)]
 pub fn check_line(line: &[u8]) -> CheckResult {
     line_result(line)
@@ -514,6 +618,16 @@ pub fn minimum_load_row(row: &Row, wind: f64) -> CheckResult {
 #[inline(never)]
 pub fn minimum_load_row_into(row: &Row, wind: f64, out: &mut [u8]) -> CheckResult {
     into(out, || minimum_load_row_result(row, wind))
+}
+
+#[inline(never)]
+pub fn range_lines(low: &[u8], high: &[u8]) -> RangeResult {
+    range_result(low, high, range_line)
+}
+
+#[inline(never)]
+pub fn range_rows(low: &Row, high: &Row) -> RangeResult {
+    range_result(low, high, range_row)
 }
 
 /// Output that is gathered into pieces.

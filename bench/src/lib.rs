@@ -1,7 +1,7 @@
 //! The wall check in plain Rust, without proofs, to compare speed with: `simple` as one would first
 //! write it, `fast` as fast as we could make it by hand. Each has the whole program and functions for one
-//! line and one row, also of the minimum load in the top storey; and `archive`, with the functions and both programs
-//! of archived schedules.
+//! line and one row, also of the minimum load in the top storey, and for two lines and two rows of a range; and `archive`,
+//! with the functions and both programs of archived schedules.
 
 pub mod fast;
 pub mod simple;
@@ -23,6 +23,13 @@ pub struct CheckResult {
 pub struct Reading {
     pub result: CheckResult,
     pub taken: u64,
+}
+
+/// What the functions of ranges return.
+#[derive(Clone, Copy, Debug, Default, PartialEq, Eq)]
+pub struct RangeResult {
+    pub refusal: u64,
+    pub answer: u64,
 }
 
 /// A worksheet row: the 19 cells in the line's order.
@@ -55,6 +62,14 @@ fn refused(refusal: u64) -> CheckResult {
         refusal,
         ..CheckResult::default()
     }
+}
+
+fn range_refused(refusal: u64) -> RangeResult {
+    RangeResult { refusal, answer: 0 }
+}
+
+fn range_answer(answer: u64) -> RangeResult {
+    RangeResult { refusal: 0, answer }
 }
 
 const BAD_BLOCK: Archived = Archived {

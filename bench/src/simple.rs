@@ -2,7 +2,10 @@
 
 pub mod archive;
 
-use crate::{filled, refused, CheckResult, Reading, Row, LONGEST_LINE, SHORTEST_BUFFER};
+use crate::{
+    filled, range_answer, range_refused, refused, CheckResult, RangeResult, Reading, Row,
+    LONGEST_LINE, SHORTEST_BUFFER,
+};
 use std::io::{self, BufRead, Write};
 
 struct StoreyWall {
@@ -360,6 +363,52 @@ impl StoreyWall {
     }
 }
 
+/// Whether a low value is above its high value or another number differs.
+fn bad_range(low: &StoreyWall, high: &StoreyWall) -> bool {
+    low.dead > high.dead
+        || low.imposed > high.imposed
+        || low.strength > high.strength
+        || low.span > high.span
+        || low.floor_load > high.floor_load
+        || low.building > high.building
+        || (low.other_span > 0 && low.span != high.span)
+        || low.usage != high.usage
+        || low.thickness != high.thickness
+        || low.height != high.height
+        || low.length != high.length
+        || low.held != high.held
+        || low.distance != high.distance
+        || low.support != high.support
+        || low.bearing != high.bearing
+        || low.bonded != high.bonded
+        || low.storeys != high.storeys
+        || low.other_span != high.other_span
+        || low.calcium_silicate != high.calcium_silicate
+        || low.wind != high.wind
+}
+
+/// The result of two records in range.
+fn check_range(low: &StoreyWall, high: &StoreyWall) -> RangeResult {
+    if bad_range(low, high) {
+        return range_refused(25);
+    }
+    let worst = StoreyWall {
+        strength: low.strength,
+        ..*high
+    };
+    let best = StoreyWall {
+        strength: high.strength,
+        ..*low
+    };
+    if worst.check().refusal == 0 {
+        range_answer(1)
+    } else if best.check().refusal == 0 {
+        range_answer(3)
+    } else {
+        range_answer(2)
+    }
+}
+
 impl CellarWall {
     fn in_range(&self) -> bool {
         (1..=1000).contains(&self.thickness)
@@ -535,6 +584,35 @@ pub fn minimum_load_row_into(row: &Row, wind: f64, out: &mut [u8]) -> CheckResul
         return refused(20);
     }
     into(minimum_load_row(row, wind), out)
+}
+
+/// The storey wall of a line, in range, or refusal 1 or 2.
+fn range_line(line: &[u8]) -> Result<StoreyWall, u64> {
+    match read_line(line) {
+        Some(Wall::Storey(wall)) if wall.in_range() => Ok(wall),
+        Some(Wall::Storey(_)) => Err(2),
+        _ => Err(1),
+    }
+}
+
+fn range_row(row: &Row) -> Result<StoreyWall, u64> {
+    row_wall(row).filter(StoreyWall::in_range).ok_or(2)
+}
+
+#[inline(never)]
+pub fn range_lines(low: &[u8], high: &[u8]) -> RangeResult {
+    match (range_line(low), range_line(high)) {
+        (Ok(low), Ok(high)) => check_range(&low, &high),
+        (Err(refusal), _) | (_, Err(refusal)) => range_refused(refusal),
+    }
+}
+
+#[inline(never)]
+pub fn range_rows(low: &Row, high: &Row) -> RangeResult {
+    match (range_row(low), range_row(high)) {
+        (Ok(low), Ok(high)) => check_range(&low, &high),
+        (Err(refusal), _) | (_, Err(refusal)) => range_refused(refusal),
+    }
 }
 
 /// The schedule program.

@@ -1,10 +1,11 @@
 /* Runs the acceptance cases against the library: each line, each storey record as a worksheet row too, and each row,
  * alone and into lent buffers of several lengths; of each line also the count of bytes taken. The same of the minimum
- * load in the top storey. Each text is archived into buffers of several lengths and read back, and each block is read.
+ * load in the top storey. Each pair of lines and of rows of a range. Each text is archived into buffers of several lengths
+ * and read back, and each block is read.
  *
  *     gcc -std=c11 -Wall -Wextra -I include callers/c/acceptance.c libwallcheck.a -o acceptance
  *     ./acceptance callers/cases.txt callers/rows.txt callers/minimum_load_lines.txt callers/minimum_load_rows.txt \
- *         callers/archive_texts.txt callers/archive_blocks.txt
+ *         callers/range_lines.txt callers/range_rows.txt callers/archive_texts.txt callers/archive_blocks.txt
  */
 #include <stdio.h>
 #include <stdlib.h>
@@ -12,11 +13,13 @@
 
 #include "wallcheck.h"
 
-enum { EDITION = 108, CELLS = 19 };
+enum { EDITION = 109, CELLS = 19 };
 
 _Static_assert(sizeof(wallcheck_result) == 40, "five numbers of eight bytes");
 _Static_assert(sizeof(wallcheck_reading) == 48, "a result and the count");
 _Static_assert(offsetof(wallcheck_reading, taken) == 40, "the count is the last");
+_Static_assert(sizeof(wallcheck_range) == 16, "two numbers of eight bytes");
+_Static_assert(offsetof(wallcheck_range, answer) == 8, "the answer is the second");
 _Static_assert(sizeof(wallcheck_archived) == 16, "two numbers of eight bytes");
 _Static_assert(offsetof(wallcheck_archived, count) == 8, "the count is the second");
 _Static_assert(sizeof(wallcheck_cells) == CELLS * sizeof(double), "nineteen cells");
@@ -165,15 +168,21 @@ static void run_minimum_load_row(const char *line, wallcheck_cells cells, double
     }
 }
 
-/* The result behind the column of the design wind. */
-static wallcheck_result result_behind_wind(const char *line, const char *columns)
+/* The columns behind the first. */
+static const char *behind_tab(const char *line, const char *columns)
 {
     const char *tab = strchr(columns, '\t');
     if (tab == NULL) {
         fprintf(stderr, "c: a column is missing: %s\n", line);
         exit(1);
     }
-    return result_of(tab + 1);
+    return tab + 1;
+}
+
+/* The result behind the column of the design wind. */
+static wallcheck_result result_behind_wind(const char *line, const char *columns)
+{
+    return result_of(behind_tab(line, columns));
 }
 
 /* Runs a line with its design wind, and its row if it is of the form `S`. */
@@ -189,6 +198,52 @@ static void run_minimum_load_line_case(const char *line, const char *columns)
 static void run_minimum_load_row_case(const char *row, const char *columns)
 {
     run_minimum_load_row(row, cells_of(row), strtod(columns, NULL), result_behind_wind(row, columns));
+}
+
+static wallcheck_range range_of(const char *numbers)
+{
+    unsigned long long refusal, answer;
+    if (sscanf(numbers, "%llu %llu", &refusal, &answer) != 2) {
+        fprintf(stderr, "c: not refusal and answer: %s\n", numbers);
+        exit(1);
+    }
+    return (wallcheck_range){refusal, answer};
+}
+
+static int same_range(wallcheck_range x, wallcheck_range y)
+{
+    return x.refusal == y.refusal && x.answer == y.answer;
+}
+
+/* Runs a low and a high line, and their rows where both are of the form `S`. */
+static void run_range_lines_case(const char *low, const char *columns)
+{
+    const char *high = columns, *numbers = behind_tab(low, columns);
+    size_t low_len = strlen(low), high_len = (size_t)(numbers - 1 - high);
+    wallcheck_range expected = range_of(numbers);
+    wallcheck_range got = wallcheck_range_lines((const uint8_t *)low, low_len, (const uint8_t *)high, high_len);
+    report("range of lines", low, same_range(got, expected));
+    if (expected.refusal != 1 && low[0] == 'S' && high[0] == 'S')
+        report("range of rows of lines", low,
+               same_range(wallcheck_range_rows(cells_of(low + 1), cells_of(high + 1)), expected));
+}
+
+static void run_range_rows_case(const char *low, const char *columns)
+{
+    wallcheck_range expected = range_of(behind_tab(low, columns));
+    report("range of rows", low, same_range(wallcheck_range_rows(cells_of(low), cells_of(columns)), expected));
+}
+
+/* A null pointer with length 0, as low line and as high line. */
+static void run_range_null(void)
+{
+    const char *numbers = "S 1 175 2625 5000 2 0 1 5000 175 500 0 60000 90000 2250 9000 3 0 0 0";
+    const uint8_t *line = (const uint8_t *)numbers;
+    const wallcheck_range no_line = {.refusal = 1};
+    size_t len = strlen(numbers);
+    report("range of lines", "both null", same_range(wallcheck_range_lines(NULL, 0, NULL, 0), no_line));
+    report("range of lines", "low null", same_range(wallcheck_range_lines(NULL, 0, line, len), no_line));
+    report("range of lines", "high null", same_range(wallcheck_range_lines(line, len, NULL, 0), no_line));
 }
 
 /* The bytes that a case names. */
@@ -356,18 +411,21 @@ static void run_file(const char *path, void (*run)(const char *, const char *))
 
 int main(int argc, char **argv)
 {
-    if (argc != 7) {
+    if (argc != 9) {
         fprintf(stderr, "usage: acceptance cases.txt rows.txt minimum_load_lines.txt minimum_load_rows.txt "
-                        "archive_texts.txt archive_blocks.txt\n");
+                        "range_lines.txt range_rows.txt archive_texts.txt archive_blocks.txt\n");
         return 1;
     }
     run_file(argv[1], run_line_case);
     run_file(argv[2], run_row_case);
     run_file(argv[3], run_minimum_load_line_case);
     run_file(argv[4], run_minimum_load_row_case);
-    run_file(argv[5], run_archive_text_case);
-    run_file(argv[6], run_archive_block_case);
+    run_file(argv[5], run_range_lines_case);
+    run_file(argv[6], run_range_rows_case);
+    run_file(argv[7], run_archive_text_case);
+    run_file(argv[8], run_archive_block_case);
     run_null();
+    run_range_null();
     run_archive_null();
     report("edition", "", wallcheck_edition() == EDITION);
     if (different > 0) {

@@ -1,16 +1,18 @@
 """Compares the shared library with the oracle: acceptance cases, lines and the bytes taken of them, rows, lent buffers,
-and rows with lines; lines and rows of the minimum load; texts and blocks of the archive.
+and rows with lines; lines and rows of the minimum load and of ranges; texts and blocks of the archive.
 
-    python3 callers/python/compare.py libwallcheck.so [LINES ROWS RECORDS MINIMUM TEXTS BLOCKS]
+    python3 callers/python/compare.py libwallcheck.so [LINES ROWS RECORDS MINIMUM RANGES TEXTS BLOCKS]
 
 Without numbers 200000 lines, 200000 rows and 100000 records are compared, 120000 lines and as many rows of the minimum
-load, 20000 texts and 100000 blocks.
+load, 6561 small ranges, as many wide ones, twice as many other pairs of lines and three times as many of rows,
+20000 texts and 100000 blocks.
 """
 
 import ctypes
 import struct
 import sys
-from itertools import chain
+from collections import Counter
+from itertools import chain, islice
 from pathlib import Path
 
 sys.path.insert(0, str(Path(__file__).resolve().parent.parent.parent / 'oracle'))
@@ -20,9 +22,9 @@ import archive_inputs
 import generate
 import walls
 from cases import (read_archive_blocks, read_archive_texts, read_lines, read_minimum_load_lines, read_minimum_load_rows,
-                   read_rows)
+                   read_range_lines, read_range_rows, read_rows)
 
-EDITION = 108
+EDITION = 109
 CELLS = ('usage thickness height length held distance support span bearing strength bonded dead imposed floorload '
          'building storeys otherspan calciumsilicate wind').split()
 GUARD = bytes(range(0xA0, 0xB0))
@@ -38,6 +40,10 @@ class Result(ctypes.Structure):
 
 class Reading(ctypes.Structure):
     _fields_ = [('result', Result), ('taken', ctypes.c_uint64)]
+
+
+class RangeResult(ctypes.Structure):
+    _fields_ = [('refusal', ctypes.c_uint64), ('answer', ctypes.c_uint64)]
 
 
 class Archived(ctypes.Structure):
@@ -63,6 +69,8 @@ class Library:
                                                  line + [ctypes.c_uint64] + out)
         self.minimum_load_row = self.entry(library.wallcheck_minimum_load_row, [Cells, ctypes.c_double])
         self.minimum_load_row_into = self.entry(library.wallcheck_minimum_load_row_into, [Cells, ctypes.c_double] + out)
+        self.range_lines = self.entry(library.wallcheck_range_lines, line + line, RangeResult)
+        self.range_rows = self.entry(library.wallcheck_range_rows, [Cells, Cells], RangeResult)
         self.archive_count = self.entry(library.wallcheck_archive_count, line, Archived)
         self.archive_write = self.entry(library.wallcheck_archive_write, line + out, Archived)
         self.archive_read = self.entry(library.wallcheck_archive_read, line, Archived)
@@ -88,6 +96,10 @@ class Comparison:
 
 def numbers_of(result):
     return result.refusal, result.length_or_need, result.load, result.resistance, result.spare
+
+
+def range_of(result):
+    return result.refusal, result.answer
 
 
 def archived_of(archived):
@@ -200,6 +212,85 @@ def compare_minimum_load_rows(library, comparison, count):
         comparison.equal(words, lend(library.minimum_load_row_into, arguments, 64), lent(expected, 64))
         compared += 1
     return compared
+
+
+def range_of_lines(library, low, high):
+    return range_of(library.range_lines(low, len(low), high, len(high)))
+
+
+def range_of_rows(library, low, high):
+    """Of two rows with these words."""
+    return range_of(library.range_rows(cells_of(low), cells_of(high)))
+
+
+def compare_range_cases(library, comparison):
+    compared = 0
+    for low, high, expected in read_range_lines():
+        comparison.equal((low, high), range_of_lines(library, low, high), expected)
+        compared += 1
+    for low, high, expected in read_range_rows():
+        comparison.equal((low, high), range_of(library.range_rows(Cells(*low), Cells(*high))), expected)
+        compared += 1
+    line = walls.line_of(walls.A)
+    for low, high in ((None, None), (None, line), (line, None)):
+        got = range_of(library.range_lines(low, len(low or b''), high, len(high or b'')))
+        comparison.equal((low, high), got, (1, 0))
+        compared += 1
+    return compared
+
+
+def compare_ranges(library, comparison, pairs, results):
+    """Each pair of records as lines and as rows. How many pairs there are, how many of them have an answer, and how many
+    records lie between these. Where few lie between two, the oracle checks each, or, where the answer is 3, as many as that
+    takes."""
+    compared = answered = between = 0
+    for low, high in pairs:
+        expected = walls.check_range(low, high)
+        lines, words = map(walls.line_of, (low, high)), map(generate.words_of, (low, high))
+        comparison.equal((low, high), range_of_lines(library, *lines), expected)
+        comparison.equal((low, high), range_of_rows(library, *words), expected)
+        results[expected] += 1
+        if expected.refusal == 0:
+            answered += 1
+            between += walls.count_between(low, high)
+        compared += 1
+    return compared, answered, between
+
+
+def compare_range_lines(library, comparison, count, results):
+    compared = 0
+    for low, high in generate.range_lines(count):
+        expected = walls.check_range_lines(low, high)
+        comparison.equal((low, high), range_of_lines(library, low, high), expected)
+        results[expected] += 1
+        compared += 1
+    return compared
+
+
+def compare_range_rows(library, comparison, count, results):
+    compared = 0
+    for low, high in generate.range_rows(count):
+        expected = walls.check_range_rows(values_of(low), values_of(high))
+        comparison.equal((low, high), range_of_rows(library, low, high), expected)
+        results[expected] += 1
+        compared += 1
+    return compared
+
+
+def compare_all_ranges(library, comparison, count):
+    """What is compared, and how often each answer and each refusal comes, in words."""
+    results = Counter()
+    small_pairs = islice(generate.small_ranges(generate.Numbers(17)), count)
+    small, answered, between = compare_ranges(library, comparison, small_pairs, results)
+    wide_pairs = islice(generate.wide_ranges(generate.Numbers(18)), count)
+    wide, *_ = compare_ranges(library, comparison, wide_pairs, results)
+    lines = compare_range_lines(library, comparison, 2 * count, results)
+    rows = compare_range_rows(library, comparison, 3 * count, results)
+    answers = ', '.join(f'{results[0, answer]} of {answer}' for answer in (1, 2, 3))
+    refusals = ', '.join(f'{results[refusal, 0]} of {refusal}' for refusal in (1, 2, 25))
+    return (f'{small} small ranges, {answered} of them with an answer and together {between} records between, '
+            f'{wide} wide ones, {lines} other pairs of lines and {rows} of rows of ranges, '
+            f'with the answers {answers} and the refusals {refusals}')
 
 
 def count_of_archive(library, text):
@@ -345,12 +436,13 @@ def compare_minimum_load_buffers(library, comparison):
 
 
 def main():
-    if len(sys.argv) not in (2, 8):
+    if len(sys.argv) not in (2, 9):
         sys.exit(__doc__)
-    lines, rows, records, minimum, texts, blocks = map(int, sys.argv[2:] or (200000, 200000, 100000, 120000, 20000, 100000))
+    lines, rows, records, minimum, ranges, texts, blocks = map(
+        int, sys.argv[2:] or (200000, 200000, 100000, 120000, 6561, 20000, 100000))
     library, comparison = Library(str(Path(sys.argv[1]).resolve())), Comparison()
     cases = (compare_cases(library, comparison) + compare_minimum_load_cases(library, comparison)
-             + compare_archive_cases(library, comparison))
+             + compare_range_cases(library, comparison) + compare_archive_cases(library, comparison))
     buffers = compare_buffers(library, comparison) + compare_minimum_load_buffers(library, comparison)
     print('python:', cases, 'cases,', buffers, 'buffers,',
           compare_lines(library, comparison, lines), 'lines,', compare_near_lines(library, comparison),
@@ -358,6 +450,7 @@ def main():
           compare_rows_with_lines(library, comparison, records), 'rows with their lines;',
           compare_minimum_load_lines(library, comparison, minimum), 'lines and',
           compare_minimum_load_rows(library, comparison, minimum), 'rows of the minimum load;',
+          compare_all_ranges(library, comparison, ranges) + ';',
           compare_archive_texts(library, comparison, texts), 'texts,', compare_archive_blocks(library, comparison, blocks),
           'blocks,', compare_changed_blocks(library, comparison), 'blocks with one byte changed and',
           compare_spoiled_archives(library, comparison), 'archives with one such block:',

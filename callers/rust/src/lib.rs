@@ -19,6 +19,14 @@ pub struct Reading {
     pub taken: u64,
 }
 
+/// What the functions of ranges return: 0 and the answer 1, 2 or 3; or refusal 1, 2 or 25 and 0.
+#[repr(C)]
+#[derive(Clone, Copy, Debug, Default, PartialEq, Eq)]
+pub struct RangeResult {
+    pub refusal: u64,
+    pub answer: u64,
+}
+
 /// What the functions of the archive return: 0 and a count; or refusal 23 or 24 and 0.
 #[repr(C)]
 #[derive(Clone, Copy, Debug, Default, PartialEq, Eq)]
@@ -83,7 +91,7 @@ impl From<[f64; 19]> for Cells {
 
 /// The C functions themselves.
 pub mod raw {
-    use super::{Archived, Cells, CheckResult, Reading};
+    use super::{Archived, Cells, CheckResult, RangeResult, Reading};
 
     extern "C" {
         pub fn wallcheck_edition() -> u64;
@@ -112,6 +120,13 @@ pub mod raw {
             out: *mut u8,
             out_len: usize,
         ) -> CheckResult;
+        pub fn wallcheck_range_lines(
+            low: *const u8,
+            low_len: usize,
+            high: *const u8,
+            high_len: usize,
+        ) -> RangeResult;
+        pub fn wallcheck_range_rows(low: Cells, high: Cells) -> RangeResult;
         pub fn wallcheck_archive_count(text: *const u8, len: usize) -> Archived;
         pub fn wallcheck_archive_write(
             text: *const u8,
@@ -174,6 +189,16 @@ pub fn minimum_load_row(cells: Cells, wind: f64) -> CheckResult {
 
 pub fn minimum_load_row_into(cells: Cells, wind: f64, out: &mut [u8]) -> CheckResult {
     unsafe { raw::wallcheck_minimum_load_row_into(cells, wind, out.as_mut_ptr(), out.len()) }
+}
+
+/// Whether all records between a low and a high line are accepted, none, or some.
+pub fn range_lines(low: &[u8], high: &[u8]) -> RangeResult {
+    unsafe { raw::wallcheck_range_lines(low.as_ptr(), low.len(), high.as_ptr(), high.len()) }
+}
+
+/// The same of two rows.
+pub fn range_rows(low: Cells, high: Cells) -> RangeResult {
+    unsafe { raw::wallcheck_range_rows(low, high) }
 }
 
 /// How many blocks the lines of a text take.

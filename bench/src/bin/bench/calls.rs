@@ -81,7 +81,7 @@ mod rows {
     }
 }
 
-fn row_of(line: &[u8]) -> Option<(Cells, Row)> {
+pub fn row_of(line: &[u8]) -> Option<(Cells, Row)> {
     let words = std::str::from_utf8(line)
         .ok()?
         .strip_prefix("S ")?

@@ -15,7 +15,7 @@ impl Random {
         low + (self.0 >> 16) % (high - low + 1)
     }
 
-    fn one_in(&mut self, count: u64) -> bool {
+    pub fn one_in(&mut self, count: u64) -> bool {
         self.within(1, count) == 1
     }
 

@@ -17,6 +17,7 @@ mod calls;
 mod input;
 mod jobs;
 mod programs;
+mod ranges;
 
 use jobs::{Expected, Input, Job, LINE, MEGABYTE};
 use plain::BLOCK;
@@ -216,12 +217,15 @@ fn bench_calls(files: &Files, lines: usize, passes: usize) -> io::Result<bool> {
         lines.len()
     );
     print_calls(&calls::measure(passes, &lines), "ns");
+    print_calls(&ranges::measure(passes, &lines), "ns");
     // Of the benchmark's lines a wrong one ends in a space; the stored ones are wrong in many ways.
     let stored = fs::read(STORED)?;
     let stored = call_lines(&stored, CALL_LINES);
     Ok(checked(
         "the calls agree on every line and row, also on the stored ones",
-        calls::agree(&lines) && calls::agree(&stored),
+        [lines, stored]
+            .iter()
+            .all(|lines| calls::agree(lines) && ranges::agree(lines)),
     ))
 }
 

@@ -1,24 +1,32 @@
 //! Runs the acceptance cases against the library: each line, each storey record as a worksheet row too, and each row,
 //! alone and into lent buffers of several lengths; of each line also the count of bytes taken. The same of the minimum
-//! load in the top storey. Each text is archived into buffers of several lengths and read back, and each block is read.
+//! load in the top storey. Each pair of lines and of rows of a range. Each text is archived into buffers of several lengths
+//! and read back, and each block is read.
 //!
 //!     WALLCHECK_LIB_DIR=.. cargo run --release --bin acceptance
 
+use std::mem::{offset_of, size_of};
 use std::process::exit;
 use std::ptr::{null, null_mut};
 use wallcheck::{
     archive_count, archive_read, archive_write, check_line, check_line_into, check_line_taken,
     check_row, check_row_into, edition, minimum_load_line, minimum_load_line_into,
-    minimum_load_row, minimum_load_row_into, raw, Archived, Cells, CheckResult, Reading, BLOCK_LEN,
+    minimum_load_row, minimum_load_row_into, range_lines, range_rows, raw, Archived, Cells,
+    CheckResult, RangeResult, Reading, BLOCK_LEN,
 };
+
+// As include/wallcheck.h has it.
+const _: () = assert!(size_of::<RangeResult>() == 16 && offset_of!(RangeResult, answer) == 8);
 
 const LINES: &str = include_str!("../../../cases.txt");
 const ROWS: &str = include_str!("../../../rows.txt");
 const MINIMUM_LOAD_LINES: &str = include_str!("../../../minimum_load_lines.txt");
 const MINIMUM_LOAD_ROWS: &str = include_str!("../../../minimum_load_rows.txt");
+const RANGE_LINES: &str = include_str!("../../../range_lines.txt");
+const RANGE_ROWS: &str = include_str!("../../../range_rows.txt");
 const ARCHIVE_TEXTS: &str = include_str!("../../../archive_texts.txt");
 const ARCHIVE_BLOCKS: &str = include_str!("../../../archive_blocks.txt");
-const EDITION: u64 = 108;
+const EDITION: u64 = 109;
 const OUT_LENGTHS: [usize; 4] = [0, 63, 64, 100];
 const FILL: u8 = 0xA5;
 
@@ -195,6 +203,64 @@ fn run_minimum_load(tally: &mut Tally) {
     }
 }
 
+fn range_of(numbers: &str) -> RangeResult {
+    let (refusal, answer) = numbers.split_once(' ').expect("refusal and answer");
+    RangeResult {
+        refusal: refusal.parse().expect("a refusal"),
+        answer: answer.parse().expect("an answer"),
+    }
+}
+
+/// The 19 words behind the letter `S`, if there are so many.
+fn storey_numbers(line: &str) -> Option<&str> {
+    let numbers = line.strip_prefix("S ")?;
+    (numbers.split(' ').count() == 19).then_some(numbers)
+}
+
+/// Runs a low and a high line, and their rows where both are of the form `S`.
+fn run_range_lines_case(tally: &mut Tally, low: &str, high: &str, expected: RangeResult) {
+    let result = range_lines(low.as_bytes(), high.as_bytes());
+    tally.count("range of lines", low, result == expected);
+    match (storey_numbers(low), storey_numbers(high)) {
+        (Some(low), Some(high)) if expected.refusal != 1 => {
+            let result = range_rows(cells_of(low), cells_of(high));
+            tally.count("range of rows of lines", low, result == expected);
+        }
+        _ => (),
+    }
+}
+
+fn run_ranges(tally: &mut Tally) {
+    for (low, columns) in cases(RANGE_LINES) {
+        let (high, numbers) = columns.split_once('\t').expect("two columns");
+        run_range_lines_case(tally, low, high, range_of(numbers));
+    }
+    for (low, columns) in cases(RANGE_ROWS) {
+        let (high, numbers) = columns.split_once('\t').expect("two columns");
+        let result = range_rows(cells_of(low), cells_of(high));
+        tally.count("range of rows", low, result == range_of(numbers));
+    }
+}
+
+/// A null pointer with length 0, as low line and as high line, which the header allows.
+fn run_range_null(tally: &mut Tally) {
+    let line = b"S 1 175 2625 5000 2 0 1 5000 175 500 0 60000 90000 2250 9000 3 0 0 0";
+    let given = (line.as_ptr(), line.len());
+    let none = (null(), 0);
+    let no_line = RangeResult {
+        refusal: 1,
+        answer: 0,
+    };
+    for (what, low, high) in [
+        ("both null", none, none),
+        ("low null", none, given),
+        ("high null", given, none),
+    ] {
+        let result = unsafe { raw::wallcheck_range_lines(low.0, low.1, high.0, high.1) };
+        tally.count("range of lines", what, result == no_line);
+    }
+}
+
 /// The bytes of a column: pieces with a space between, hexadecimal digits, and where `*` and a number stand behind them, so
 /// many times.
 fn bytes_of(column: &str) -> Vec<u8> {
@@ -343,8 +409,10 @@ fn main() {
         run_row(&mut tally, row, cells_of(row), result_of(numbers));
     }
     run_minimum_load(&mut tally);
+    run_ranges(&mut tally);
     run_archive(&mut tally);
     run_null(&mut tally);
+    run_range_null(&mut tally);
     run_archive_null(&mut tally);
     tally.count("edition", "", edition() == EDITION);
     if tally.different > 0 {
