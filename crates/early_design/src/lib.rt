@@ -10,7 +10,7 @@ ghost use Rattle.early_design.specs.Corners.{worst_of, best_of};
 use basis::Refusal;
 use storey::StoreyWall;
 
-// Of the records between a low and a high one.
+// Which of the records between a low and a high one are accepted.
 #[derive(Clone, Copy, Debug, PartialEq, Eq)]
 pub enum RangeAnswer {
     AllAccepted = 1,
@@ -53,7 +53,7 @@ pub struct WallRange {
 }
 
 impl WallRange {
-    #[tactic(auto, unfolding(crate::specs::Check::low_above_high))]
+    // A low value above its high value.
     fn low_above_high(self) -> bool
         ensures { result ≡ low_above_high self.low self.high }
     {
@@ -66,7 +66,7 @@ impl WallRange {
             | (high.building < low.building)
     }
 
-    // The low record with the six of the high one is the high one, unless another number differs.
+    // Another number differs where the low record with the six of the high one is not the high one.
     fn another_differs(self) -> bool
         ensures { result ≡ another_differs self.low self.high }
     {
@@ -83,14 +83,14 @@ impl WallRange {
         with_six_of_high != high
     }
 
-    #[tactic(auto, unfolding(crate::specs::Check::two_way_span_differs))]
+    // Under a slab that spans both ways L must agree too: a shorter one can lose the reduction.
     fn two_way_span_differs(self) -> bool
         ensures { result ≡ two_way_span_differs self.low self.high }
     {
         (0 < self.low.otherspan) & (self.low.span != self.high.span)
     }
 
-    // 25
+    // 25: they are no low and high record.
     #[tactic(auto, unfolding(crate::specs::Check::not_low_and_high))]
     fn not_low_and_high(self) -> bool
         ensures { result ≡ not_low_and_high self.low self.high }
@@ -98,7 +98,7 @@ impl WallRange {
         self.low_above_high() | self.another_differs() | self.two_way_span_differs()
     }
 
-    // The answer for any two records.
+    // The answer for any two records: the first refusal that applies, or what holds of the records between.
     #[tactic(auto, unfolding(basis::specs::Refusal::first_or))]
     pub fn check(self) -> Result<RangeAnswer, Refusal>
         ensures { numbered result ≡ check self.low self.high }
@@ -140,6 +140,7 @@ impl ComparableRange {
         }
     }
 
+    // Two records stand for all: where the worst is accepted so is every other, and where one is accepted so is the best.
     fn answer(self) -> RangeAnswer
         ensures { result ≡ answer self.range.low self.range.high }
     {
