@@ -1,12 +1,13 @@
 -- Proofs of the claims of specs/Claims.antt; those about the two records that decide stand in Corners.antt.
 use Prim.Native.Nat.{ℕ}
 use mathlib.Core.Bool.{Bool, true, false, true≢false, cond, not}
+use mathlib.Core.List.{[], ◌∷◌}
 use mathlib.Core.Logic.{◌↔◌}
 use mathlib.Core.Path.{◌≡◌, ◌∙◌, refl, sym, ap}
 use native.Mathlib.Omega.{arith}
 use lib.Dec.{ltb}
 use borrow.Author.Tests.{ltb-true, eqb-true, eq-eqb}
-use Rattle.std.specs.Prelude.{Err}
+use Rattle.std.specs.Prelude.{get_or, Err}
 use Rattle.basis.specs.Refusal.{NoneApplies}
 use Rattle.basis.specs.Result.{Accepted}
 use Rattle.basis.proofs.FirstRefusal.{first_or_cases, first_or_none}
@@ -124,19 +125,20 @@ otherwise_answers_3 low high =
 
 -- What the two records say of the answer.
 
-answer_by : (low high : StoreyWall) (given : RangeAnswer) → Answers low high (number_of_answer given) → answer low high ≡ given
-answer_by low high given is = found given (answer low high) ((answers_exactly low high (number_of_answer given)).0 is).1
-  where
-    found : (given other : RangeAnswer) → number_of_answer other ≡ number_of_answer given → other ≡ given
-    found AllAccepted AllAccepted is = refl
-    found NoneAccepted NoneAccepted is = refl
-    found SomeAccepted SomeAccepted is = refl
-    found AllAccepted NoneAccepted is = absurd (let no· : ⊥ = omega (arith, is) in no·)
-    found AllAccepted SomeAccepted is = absurd (let no· : ⊥ = omega (arith, is) in no·)
-    found NoneAccepted AllAccepted is = absurd (let no· : ⊥ = omega (arith, is) in no·)
-    found NoneAccepted SomeAccepted is = absurd (let no· : ⊥ = omega (arith, is) in no·)
-    found SomeAccepted AllAccepted is = absurd (let no· : ⊥ = omega (arith, is) in no·)
-    found SomeAccepted NoneAccepted is = absurd (let no· : ⊥ = omega (arith, is) in no·)
+-- A number stands for one answer only.
+answer_of : ℕ → RangeAnswer
+answer_of n = get_or (SomeAccepted ∷ AllAccepted ∷ NoneAccepted ∷ []) n SomeAccepted
+
+found_again : (given : RangeAnswer) → answer_of (number_of_answer given) ≡ given
+unfolding answer_of
+found_again AllAccepted = refl
+found_again NoneAccepted = refl
+found_again SomeAccepted = refl
+
+pub answer_by : (low high : StoreyWall) (given : RangeAnswer) → Answers low high (number_of_answer given) → given ≡ answer low high
+answer_by low high given is =
+    let number = ((answers_exactly low high (number_of_answer given)).0 is).1 in
+    sym (found_again given) ∙ ap answer_of (sym number) ∙ found_again (answer low high)
 
 module _ (low high : StoreyWall) (none : NoneApplies (refusals low high)) where
   abbrev WorstAccepted : Type 0
@@ -155,12 +157,3 @@ module _ (low high : StoreyWall) (none : NoneApplies (refusals low high)) where
   answers_some worst best =
       let decide = two_records_decide low high none in
       (otherwise_answers_3 low high).1 (none, ((λ every. worst (decide.2.0 every)), (λ not_one. decide.3.0 not_one best)))
-
-  pub answer_all : WorstAccepted → AllAccepted ≡ answer low high
-  answer_all worst = sym (answer_by low high AllAccepted (answers_all worst))
-
-  pub answer_none : (BestAccepted → ⊥) → NoneAccepted ≡ answer low high
-  answer_none best = sym (answer_by low high NoneAccepted (answers_none best))
-
-  pub answer_some : (WorstAccepted → ⊥) → BestAccepted → SomeAccepted ≡ answer low high
-  answer_some worst best = sym (answer_by low high SomeAccepted (answers_some worst best))

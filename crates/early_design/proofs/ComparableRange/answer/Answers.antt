@@ -1,6 +1,7 @@
 -- `ComparableRange::answer` meets its contract: of the records between, the worst and the best decide.
 use Rattle.early_design.proofs.Check.{not_refused}
-use Rattle.early_design.proofs.Claims.{answer_all, answer_none, answer_some}
+use Rattle.early_design.specs.declared.RangeAnswer.TheVariants.{AllAccepted, NoneAccepted, SomeAccepted}
+use Rattle.early_design.proofs.Claims.{answer_by, answers_all, answers_none, answers_some}
 use Rattle.early_design.proofs.ComparableRange.answer.Goals as goal
 
 pub returns-then-check-eq0 : goal.returns-then-check-eq0
@@ -9,7 +10,7 @@ returns-then-check-eq0 c =
     let high = c.args.self.range.high in
     let none = not_refused low high c.args.self.low_in_range c.args.self.high_in_range c.args.self.low_and_high in
     let accepted = rw (c.check.ensures, c.worst.ensures) at c.if-check-eq0.true in
-    answer_all low high none accepted
+    answer_by low high AllAccepted (answers_all low high none accepted)
 
 pub returns-then-check-eq0-2 : goal.returns-then-check-eq0-2
 returns-then-check-eq0-2 c =
@@ -18,7 +19,7 @@ returns-then-check-eq0-2 c =
     let none = not_refused low high c.args.self.low_in_range c.args.self.high_in_range c.args.self.low_and_high in
     let refused = rw (c.check.ensures, c.worst.ensures) at c.if-check-eq0.false in
     let accepted = rw (c.check-2.ensures, c.best.ensures) at c.if-check-eq0-2.true in
-    answer_some low high none refused accepted
+    answer_by low high SomeAccepted (answers_some low high none refused accepted)
 
 pub returns : goal.returns
 returns c =
@@ -26,4 +27,4 @@ returns c =
     let high = c.args.self.range.high in
     let none = not_refused low high c.args.self.low_in_range c.args.self.high_in_range c.args.self.low_and_high in
     let refused = rw (c.check-2.ensures, c.best.ensures) at c.if-check-eq0-2.false in
-    answer_none low high none refused
+    answer_by low high NoneAccepted (answers_none low high none refused)
