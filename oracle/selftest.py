@@ -12,7 +12,7 @@ from archive_inputs import GOOD_BLOCKS, HALF_FILLED, with_byte
 from cases import (read_archive_blocks, read_archive_texts, read_lines, read_minimum_load_lines, read_minimum_load_rows,
                    read_range_lines, read_range_rows, read_rows)
 from generate import Numbers, small_ranges
-from walls import (A, K, StoreyWall, answer_by_corners, beginning_pattern, buckling_length, cellar_load, check,
+from walls import (A, K, StoreyWall, answer_by_worst_and_best, beginning_pattern, buckling_length, cellar_load, check,
                    check_line, check_minimum_load, check_minimum_load_line, check_minimum_load_row, check_range,
                    check_range_lines, check_range_rows, check_row, greatest_height, lent, line_of, line_pattern,
                    minimum_load, need, records_between, refused, row_of, schedule, span_reduced, storey_load,
@@ -330,7 +330,7 @@ def ranges():
         agree(what, check_range(low, high), (0, answer))
         agree(f'lines of the {what}', check_range_lines(line_of(low), line_of(high)), (0, answer))
         agree(f'rows of the {what}', check_range_rows(row_of(low), row_of(high)), (0, answer))
-        agree(f'corners of the {what}', answer_by_corners(low, high), answer)
+        agree(f'worst and best of the {what}', answer_by_worst_and_best(low, high), answer)
     for low, high in BAD_RANGES:
         what = f'range from {line_of(low)} to {line_of(high)}'
         agree(f'lines of the {what}', check_range_lines(line_of(low), line_of(high)), (25, 0))
@@ -347,13 +347,13 @@ def ranges():
     agree('records between two that are alike', list(records_between(A, A)), [A])
 
 
-def corners_of_ranges():
-    """Demand 3: the two records of answer_by_corners give what the definition gives, which check_range runs for so few
+def worst_and_best_of_ranges():
+    """Demand 3: the two records of answer_by_worst_and_best give what the definition gives, which check_range runs for so few
     records as here."""
     for low, high in islice(small_ranges(Numbers(16)), 3000):
         refusal, answer = check_range(low, high)
         if refusal == 0:
-            agree(f'corners of the range from {line_of(low)} to {line_of(high)}', answer_by_corners(low, high), answer)
+            agree(f'worst and best of the range from {line_of(low)} to {line_of(high)}', answer_by_worst_and_best(low, high), answer)
 
 
 def archives():
@@ -446,7 +446,7 @@ if __name__ == '__main__':
     documents()
     minimum_loads()
     ranges()
-    corners_of_ranges()
+    worst_and_best_of_ranges()
     archives()
     archive_programs()
     bytes_taken()

@@ -409,7 +409,7 @@ def answer_by_definition(low, high):
     return 1 if verdicts == {True} else 2
 
 
-def answer_by_corners(low, high):
+def answer_by_worst_and_best(low, high):
     """The same from two records between them, the one with the greatest loads, span and building height and the least
     strength, and the one with the least of those and the greatest strength. By demand 3 every record between them is
     accepted if the first is, and the second is if any is; selftest.py compares this with the definition."""
@@ -441,7 +441,7 @@ def check_range(low, high):
     if refused_range(low, high):
         return RangeResult(25, 0)
     few = count_between(low, high) <= MOST_ENUMERATED
-    return RangeResult(0, answer_by_definition(low, high) if few else answer_by_corners(low, high))
+    return RangeResult(0, answer_by_definition(low, high) if few else answer_by_worst_and_best(low, high))
 
 
 def storey_refusal(line):

@@ -278,7 +278,7 @@ def compare_range_rows(library, comparison, count, results):
 
 
 def compare_all_ranges(library, comparison, count):
-    """What is compared, and how often each answer and each refusal comes, in words."""
+    """What is compared, and how often each answer and each refusal comes, in words. Each has to come many times."""
     results = Counter()
     small_pairs = islice(generate.small_ranges(generate.Numbers(17)), count)
     small, answered, between = compare_ranges(library, comparison, small_pairs, results)
@@ -286,6 +286,8 @@ def compare_all_ranges(library, comparison, count):
     wide, *_ = compare_ranges(library, comparison, wide_pairs, results)
     lines = compare_range_lines(library, comparison, 2 * count, results)
     rows = compare_range_rows(library, comparison, 3 * count, results)
+    for expected in ((0, 1), (0, 2), (0, 3), (1, 0), (2, 0), (25, 0)):
+        comparison.equal(f'{expected} comes {results[expected]} times', results[expected] >= count // 100, True)
     answers = ', '.join(f'{results[0, answer]} of {answer}' for answer in (1, 2, 3))
     refusals = ', '.join(f'{results[refusal, 0]} of {refusal}' for refusal in (1, 2, 25))
     return (f'{small} small ranges, {answered} of them with an answer and together {between} records between, '

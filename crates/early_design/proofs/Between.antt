@@ -8,12 +8,12 @@ use native.Mathlib.Nat.{le_antisymm}
 use native.Mathlib.Omega.{arith}
 use lib.ListN.{length}
 use Rattle.basis.proofs.Choice.{and_left, and_right}
-use Rattle.basis.proofs.Listed.{listed, listed_all}
 use Rattle.storey.specs.declared.StoreyWall.{StoreyWall}
-use Rattle.storey.specs.Record.{numbers, count, storey_of}
+use Rattle.storey.specs.Record.{numbers, storey_of}
+use Rattle.storey.proofs.Record.{numbers_of_storey_of}
 use Rattle.early_design.specs.Between.{paired, ends, EachBetween, Between, every_from, every_list, every_record, EveryRecordExactly}
 
-pub every_from_true : (first count : ℕ) (test : ℕ → Bool) → every_from first count test ≡ true → (n : ℕ) → first ≤ n → n < first + count → test n ≡ true
+every_from_true : (first count : ℕ) (test : ℕ → Bool) → every_from first count test ≡ true → (n : ℕ) → first ≤ n → n < first + count → test n ≡ true
 unfolding every_from
 every_from_true first zero test every n from to = absurd (let no· : ⊥ = omega arith in no·)
 every_from_true first (suc count) test every n from to =
@@ -25,13 +25,13 @@ every_from_true first (suc count) test every n from to =
         let same : first ≡ n = omega arith in
         subst (λ (m : ℕ). test m ≡ true) same (and_left (test first) (every_from (suc first) count test) every)
 
-pub true_every_from : (first count : ℕ) (test : ℕ → Bool) → ((n : ℕ) → first ≤ n → n < first + count → test n ≡ true) → every_from first count test ≡ true
+true_every_from : (first count : ℕ) (test : ℕ → Bool) → ((n : ℕ) → first ≤ n → n < first + count → test n ≡ true) → every_from first count test ≡ true
 unfolding every_from
 true_every_from first zero test all = refl
 true_every_from first (suc count) test all =
     rw (all first (omega arith) (omega arith)) (true_every_from (suc first) count test (λ n from to. all n (omega (arith, from)) (omega (arith, to))))
 
-pub every_list_true : (es : List (ℕ × ℕ)) (test : List ℕ → Bool) → every_list es test ≡ true → (ns : List ℕ) → EachBetween es ns → test ns ≡ true
+every_list_true : (es : List (ℕ × ℕ)) (test : List ℕ → Bool) → every_list es test ≡ true → (ns : List ℕ) → EachBetween es ns → test ns ≡ true
 unfolding every_list
 every_list_true [] test every [] between = every
 every_list_true [] test every (n ∷ ns) between = absurd between
@@ -40,7 +40,7 @@ every_list_true (e ∷ es) test every (n ∷ ns) between =
     every_list_true es (λ ms. test (n ∷ ms))
     (every_from_true e.0 _ (λ m. every_list es (λ ms. test (m ∷ ms))) every n between.0 (omega (arith, between.0, between.1))) ns between.2
 
-pub true_every_list : (es : List (ℕ × ℕ)) (test : List ℕ → Bool) → ((ns : List ℕ) → EachBetween es ns → test ns ≡ true) → every_list es test ≡ true
+true_every_list : (es : List (ℕ × ℕ)) (test : List ℕ → Bool) → ((ns : List ℕ) → EachBetween es ns → test ns ≡ true) → every_list es test ≡ true
 unfolding every_list
 true_every_list [] test all = all [] tt
 true_every_list (e ∷ es) test all =
@@ -53,10 +53,6 @@ each_between_length [] [] between = refl
 each_between_length [] (n ∷ ns) between = absurd between
 each_between_length (e ∷ es) [] between = absurd between
 each_between_length (e ∷ es) (n ∷ ns) between = ap suc (each_between_length es ns between.2)
-
-numbers_of_storey_of : (ns : List ℕ) → length ns ≡ count → numbers (storey_of ns) ≡ ns
-unfolding listed
-numbers_of_storey_of ns is = listed_all count ns is
 
 pub every_record_exactly : EveryRecordExactly
 unfolding every_record

@@ -1,4 +1,4 @@
--- Laws of the refusals: what no refusal says of two records.
+-- Laws of the refusals: what it says of two records that 2, 25 or none of them applies.
 use Prim.Native.Nat.{ℕ}
 use mathlib.Core.Bool.{Bool, true, false, true≢false, cond, not, ◌&&◌, and-false}
 use mathlib.Core.List.{List, [], ◌∷◌}
@@ -13,19 +13,39 @@ use Rattle.basis.proofs.Choice.{and_left, and_right, and_none, or_left, or_right
 use Rattle.storey.specs.declared.StoreyWall.{StoreyWall}
 use Rattle.storey.specs.Record.{numbers, storey_of}
 use Rattle.storey.specs.Range.{in_range}
-use Rattle.early_design.specs.Check.{low_above_high, with_six_of, same_numbers, another_differs, two_way_span_differs, not_low_and_high, refusals, answer, check, range_result}
+use Rattle.early_design.specs.Check.{low_above_high, with_six_of, same_numbers, another_differs, two_way_span_differs, not_low_and_high, refusals, answer, range_result}
 use Rattle.early_design.specs.declared.RangeAnswer.{RangeAnswer}
-use Rattle.early_design.specs.Claims.{LowAndHigh, NotRefusedExactly, OutOfRangeRefused, RefusedAs25Exactly}
+use Rattle.early_design.specs.Claims.{LowAndHigh, NotRefusedExactly, RefusedAs2Exactly, RefusedAs25Exactly}
 
--- The first refusal that applies is 2, where it applies.
+refusal_number : Result RangeAnswer ℕ → ℕ
+refusal_number given = (range_result given).refusal
 
-pub out_of_range_refused : OutOfRangeRefused
-unfolding first_or
-out_of_range_refused low high = by_low (in_range low) refl
-  where
-    by_low : (b : Bool) → in_range low ≡ b → (b && in_range high) ≡ false → check low high ≡ Err 2
-    by_low true passed failed = rw (passed, failed) refl
-    by_low false failed either = rw failed refl
+-- What is answered, by the three tests.
+by_tests : (passed passed' apart : Bool) (given : RangeAnswer) → Result RangeAnswer ℕ
+by_tests passed passed' apart given = cond (not passed) (Err 2) (cond (not passed') (Err 2) (cond apart (Err 25) (Ok given)))
+
+-- 2
+
+to_2 : (passed passed' apart : Bool) (given : RangeAnswer) → (passed && passed') ≡ false → by_tests passed passed' apart given ≡ Err 2
+unfolding by_tests
+to_2 true true apart given failed = absurd (true≢false failed)
+to_2 true false apart given failed = refl
+to_2 false passed' apart given failed = refl
+
+from_2 : (passed passed' apart : Bool) (given : RangeAnswer) → refusal_number (by_tests passed passed' apart given) ≡ 2 → (passed && passed') ≡ false
+unfolding refusal_number by_tests
+from_2 true true true given is = absurd (let no· : ⊥ = omega (arith, is) in no·)
+from_2 true true false given is = absurd (let no· : ⊥ = omega (arith, is) in no·)
+from_2 true false apart given is = refl
+from_2 false passed' apart given is = refl
+
+pub refused_as_2_exactly : RefusedAs2Exactly
+unfolding first_or refusal_number by_tests
+refused_as_2_exactly low high =
+    let apart = not_low_and_high low high in (
+      (λ is. from_2 (in_range low) (in_range high) apart (answer low high) (ap refusal_number is)),
+      (λ failed. to_2 (in_range low) (in_range high) apart (answer low high) failed),
+    )
 
 same_numbers_are : (ns ms : List ℕ) → same_numbers ns ms ≡ true → ns ≡ ms
 same_numbers_are [] [] same = refl
@@ -103,24 +123,21 @@ module _ (low high : StoreyWall) where
   pub not_refused : in_range low ≡ true → in_range high ≡ true → not_low_and_high low high ≡ false → NoneApplies (refusals low high)
   not_refused low_passed high_passed agree = (ap not low_passed, (ap not high_passed, (agree, tt)))
 
--- And 25 where it does not.
+-- 25
 
-refusal_number : Result RangeAnswer ℕ → ℕ
-refusal_number given = (range_result given).refusal
-
-only_25 : (passed passed' apart : Bool) (given : RangeAnswer) →
-    refusal_number (cond (not passed) (Err 2) (cond (not passed') (Err 2) (cond apart (Err 25) (Ok given)))) ≡ 25 → (passed ≡ true) × (passed' ≡ true) × (apart ≡ true)
-unfolding refusal_number
-only_25 true true true given is = (refl, refl, refl)
-only_25 true true false given is = absurd (let no· : ⊥ = omega (arith, is) in no·)
-only_25 true false apart given is = absurd (let no· : ⊥ = omega (arith, is) in no·)
-only_25 false passed' apart given is = absurd (let no· : ⊥ = omega (arith, is) in no·)
+from_25 : (passed passed' apart : Bool) (given : RangeAnswer) → refusal_number (by_tests passed passed' apart given) ≡ 25 →
+    (passed ≡ true) × (passed' ≡ true) × (apart ≡ true)
+unfolding refusal_number by_tests
+from_25 true true true given is = (refl, refl, refl)
+from_25 true true false given is = absurd (let no· : ⊥ = omega (arith, is) in no·)
+from_25 true false apart given is = absurd (let no· : ⊥ = omega (arith, is) in no·)
+from_25 false passed' apart given is = absurd (let no· : ⊥ = omega (arith, is) in no·)
 
 pub refused_as_25_exactly : RefusedAs25Exactly
-unfolding first_or refusal_number
+unfolding first_or refusal_number by_tests
 refused_as_25_exactly low high = (
   (λ is.
-      let tests = only_25 (in_range low) (in_range high) (not_low_and_high low high) (answer low high) (ap refusal_number is) in
+      let tests = from_25 (in_range low) (in_range high) (not_low_and_high low high) (answer low high) (ap refusal_number is) in
       (tests.0, tests.1, (λ pair. true≢false (sym tests.2 ∙ no_refusal_25 low high pair)))),
   (λ all. rw (all.0, all.1) (by_pair (not_low_and_high low high) refl all.2)),
 )

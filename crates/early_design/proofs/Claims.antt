@@ -1,4 +1,4 @@
--- Proofs of the claims of specs/Claims.antt; those about the two records that decide stand in Corners.antt.
+-- Proofs of the three answers; the claims about refusals are proved in Check.antt, those about the records between in WorstAndBest.antt.
 use Prim.Native.Nat.{ℕ}
 use mathlib.Core.Bool.{Bool, true, false, true≢false, cond, not}
 use mathlib.Core.List.{[], ◌∷◌}
@@ -18,10 +18,10 @@ use Rattle.early_design.specs.declared.RangeAnswer.TheVariants.{AllAccepted, Non
 use Rattle.early_design.specs.declared.RangeResult.{RangeResult}
 use Rattle.early_design.specs.Between.{every_record}
 use Rattle.early_design.specs.Check.{refusals, accepted, answer, number_of_answer, range_result}
-use Rattle.early_design.specs.Corners.{worst_of, best_of}
+use Rattle.early_design.specs.WorstAndBest.{worst_of, best_of}
 use Rattle.early_design.specs.Claims.{EveryAccepted, NotOneAccepted, Answers, EveryAcceptedAnswers1, NotOneAcceptedAnswers2, OtherwiseAnswers3}
 use Rattle.early_design.proofs.Between.{every_record_exactly}
-use Rattle.early_design.proofs.Corners.{two_records_decide}
+use Rattle.early_design.proofs.WorstAndBest.{two_records_decide}
 
 -- What is handed back is the answer's number exactly if no refusal applies and it is the answer.
 answers_exactly : (low high : StoreyWall) (n : ℕ) → Answers low high n ↔ (NoneApplies (refusals low high) × (number_of_answer (answer low high) ≡ n))

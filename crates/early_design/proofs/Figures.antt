@@ -1,4 +1,4 @@
--- The examples: both records that decide compute.
+-- The examples: of each pair the worst and the best record are computed.
 use mathlib.Core.Path.{refl}
 use native.Mathlib.Omega.{arith}
 use Rattle.walls.proofs.Computes.{computes}

@@ -1,6 +1,6 @@
 -- Laws of the definitions, one file for each file of specs/.
 pub mod Between
 pub mod Check
-pub mod Corners
+pub mod WorstAndBest
 pub mod Claims
 pub mod Figures

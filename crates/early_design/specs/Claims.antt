@@ -1,4 +1,4 @@
--- Document 02, #109, as claims about the definitions; their proofs stand in proofs/Corners.antt and proofs/Claims.antt. "The check says 1 if every record between them is accepted, 2 if
+-- Document 02, #109, as claims about the definitions; their proofs stand in proofs/Check.antt, WorstAndBest.antt and Claims.antt. "The check says 1 if every record between them is accepted, 2 if
 -- none is, 3 otherwise, each exactly then."
 use Rattle.std.specs.Prelude.{ℕ, ◌≤◌, true, false, ◌&&◌, ◌⊎◌, ◌↔◌, ◌≡◌, Err}
 use Rattle.basis.specs.Refusal.{NoneApplies}
@@ -9,9 +9,9 @@ use Rattle.storey.specs.Check as StoreyCheck
 use Rattle.early_design.specs.declared.RangeResult.{RangeResult}
 use Rattle.early_design.specs.Between.{Between}
 use Rattle.early_design.specs.Check.{with_six_of, refusals, check, range_result}
-use Rattle.early_design.specs.Corners.{worst_of, best_of}
+use Rattle.early_design.specs.WorstAndBest.{worst_of, best_of}
 
--- What "agree except in G, Q, F, L, q, H" and "Where M isn't 0, L must agree too" come to, with no "low value .. above its high value".
+-- A low and a high record: no "low value is above its high value", they "agree except in G, Q, F, L, q, H", and "Where M isn't 0, L must agree too".
 pub record LowAndHigh (low high : StoreyWall) : Type 0 where
   pub dead : low.dead ≤ high.dead
   pub imposed : low.imposed ≤ high.imposed
@@ -23,17 +23,17 @@ pub record LowAndHigh (low high : StoreyWall) : Type 0 where
   pub all_else : with_six_of high low ≡ high
   pub two_way : (low.otherspan ≡ 0) ⊎ (low.span ≡ high.span)
 
--- No refusal applies exactly to two records in range that are so.
+-- No refusal applies exactly where both are in range and are a low and a high record.
 abbrev pub NotRefusedExactly : Type 0
 NotRefusedExactly =
     (low high : StoreyWall) →
     NoneApplies (refusals low high) ↔ ((in_range low ≡ true) × (in_range high ≡ true) × LowAndHigh low high)
 
--- The first that applies: 2 before 25,
-abbrev pub OutOfRangeRefused : Type 0
-OutOfRangeRefused = (low high : StoreyWall) → (in_range low && in_range high) ≡ false → check low high ≡ Err 2
+-- 2 exactly where one of the two is out of range,
+abbrev pub RefusedAs2Exactly : Type 0
+RefusedAs2Exactly = (low high : StoreyWall) → (check low high ≡ Err 2) ↔ ((in_range low && in_range high) ≡ false)
 
--- .. and 25 exactly where two records in range are not so.
+-- .. and 25 exactly where both are in range and are no low and high record.
 abbrev pub RefusedAs25Exactly : Type 0
 RefusedAs25Exactly =
     (low high : StoreyWall) →

@@ -5,7 +5,7 @@ ghost use Rattle.std.specs.Prelude.{◌≡◌, true, false};
 ghost use Rattle.basis.specs.Refusal.{numbered};
 ghost use Rattle.storey.specs.Range.{in_range};
 ghost use Rattle.early_design.specs.Check.{low_above_high, another_differs, two_way_span_differs, not_low_and_high, answer, check, number_of_answer, range_result};
-ghost use Rattle.early_design.specs.Corners.{worst_of, best_of};
+ghost use Rattle.early_design.specs.WorstAndBest.{worst_of, best_of};
 
 use basis::Refusal;
 use storey::StoreyWall;
@@ -45,7 +45,7 @@ impl From<Result<RangeAnswer, Refusal>> for RangeResult {
     }
 }
 
-// A low and a high `S` record, which agree except in G, Q, F, L, q and H: every record between them.
+// Two `S` records, to be a low and a high one that agree except in G, Q, F, L, q and H; where they are not, `check` refuses them.
 #[derive(Clone, Copy)]
 pub struct WallRange {
     pub low: StoreyWall,

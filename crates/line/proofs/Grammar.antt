@@ -16,6 +16,7 @@ use Rattle.line.specs.Grammar.{fields, NineDigits, count_of, letter_of}
 use Rattle.line.specs.Reading.{wall_of}
 use Rattle.basis.proofs.Choice.{cond_cases}
 use Rattle.basis.proofs.Listed.{listed, listed_take, listed_all}
+use Rattle.storey.proofs.Record.{numbers_of_storey_of}
 
 pub fields_append : (ns ms : List ℕ) → fields (ns ++ ms) ≡ fields ns ++ fields ms
 unfolding fields
@@ -71,7 +72,7 @@ module _ (l : List ℕ) where
   unfolding count_of wall_of listed
   numbers_of_wall_of =
       letter_cases (λ (c : ℕ). length l ≡ count_of c → numbers_of (wall_of c l) ≡ l)
-      (listed_all (count_of 83) l)
+      (numbers_of_storey_of l)
       (listed_all (count_of 67) l)
 
   pub letter_of_wall_of : (c : ℕ) → 0 < count_of c → letter_of (wall_of c l) ≡ c

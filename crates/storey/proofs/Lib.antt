@@ -1,4 +1,5 @@
 -- Laws of the definitions, one file for each file of specs/.
+pub mod Record
 pub mod Range
 pub mod Span
 pub mod BucklingLength

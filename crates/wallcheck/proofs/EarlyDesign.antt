@@ -1,16 +1,16 @@
 -- The entries of document 02, #109: each claim by citing what was proved of the records, and of lines and rows.
 use Rattle.std.proofs.Common.{Option, Some, None}
-use Prim.Native.Nat.{ℕ, ◌^◌}
-use mathlib.Core.Bool.{Bool, true, false, true≢false, cond, not}
+use Prim.Native.Nat.{ℕ, ◌<◌, ◌^◌}
+use mathlib.Core.Bool.{Bool, true, false, true≢false, cond, not, ◌&&◌}
 use mathlib.Core.List.{List}
 use mathlib.Core.Logic.{◌⊎◌, inl, inr, ◌↔◌}
 use mathlib.Core.Path.{◌≡◌, ◌∙◌, refl, sym, ap, ap₂}
 use native.Mathlib.Omega.{arith}
 use lib.Dec.{eqb}
-use Rattle.std.specs.Prelude.{Err}
+use Rattle.std.specs.Prelude.{Result, Ok, Err}
 use Rattle.std.proofs.lemmas.Option.{none-some}
 use Rattle.basis.specs.Range.{AllBelow}
-use Rattle.basis.specs.Refusal.{first_or, NoneApplies}
+use Rattle.basis.specs.Refusal.{NoneApplies}
 use Rattle.basis.specs.Result.{Accepted}
 use Rattle.basis.specs.declared.CheckResult.{CheckResult}
 use Rattle.basis.proofs.FirstRefusal.{first_or_cases}
@@ -21,24 +21,27 @@ use Rattle.storey.specs.Range.{in_range}
 use Rattle.storey.specs.Check as StoreyCheck
 use Rattle.storey.proofs.Range.{numbers_small}
 use Rattle.walls.specs.declared.Wall.TheVariants.{Storey}
+use Rattle.early_design.specs.declared.RangeAnswer.{RangeAnswer}
 use Rattle.early_design.specs.declared.RangeResult.{RangeResult}
 use Rattle.early_design.specs.Between.{Between}
 use Rattle.early_design.specs.Check.{refusals, check, range_result}
 use Rattle.early_design.specs.Claims.{EveryAccepted, NotOneAccepted, Otherwise, Answers}
-use Rattle.early_design.proofs.Check.{not_refused_exactly}
-use Rattle.early_design.proofs.Corners.{between_in_range}
+use Rattle.early_design.proofs.Check.{refused_as_2_exactly, not_refused_exactly}
+use Rattle.early_design.proofs.WorstAndBest.{between_in_range}
 use Rattle.early_design.proofs.Claims.{every_accepted_answers_1, not_one_accepted_answers_2, otherwise_answers_3}
 use Rattle.worksheet.specs.Cell.{cell_bound}
 use Rattle.worksheet.specs.Entry.{Entry, entries_wall, TurnIntoTheirRecord}
 use Rattle.worksheet.specs.Row.{entries}
 use Rattle.worksheet.specs.Cells.{cell_entries}
 use Rattle.worksheet.proofs.Entries.{row_is_its_numbers, cells_are_their_numbers}
-use Rattle.wallcheck.specs.StoreyRecord.{read_storey}
+use Rattle.wallcheck.specs.StoreyRecord.{read_storey, StoreyLine}
 use Rattle.wallcheck.specs.EarlyDesign.{
   range_read,
   range_lines,
   refused,
-  StoreyLine,
+  LineInRange,
+  NotStoreyLine,
+  RangeOutOfRange,
   RangeLinesOfRecords,
   RangeNotALine,
   AreTheLines,
@@ -63,64 +66,110 @@ pub range_lines_of_records : RangeLinesOfRecords
 range_lines_of_records low high nine nine' =
     ap₂ (λ (l h : Option StoreyWall). range_result (range_read l h)) (read_storey_complete low nine) (read_storey_complete high nine')
 
--- 2
+-- 1 and 2
 
-first_refused : (low high : StoreyWall) → in_range low ≡ false → range_result (check low high) ≡ refused 2
-unfolding first_or
-first_refused low high failed = rw failed refl
+abbrev refusal_number : Result RangeAnswer ℕ → ℕ
+refusal_number given = (range_result given).refusal
 
-second_refused : (low high : StoreyWall) → in_range low ≡ true → in_range high ≡ false → range_result (check low high) ≡ refused 2
-unfolding first_or
-second_refused low high passed failed = rw (passed, failed) refl
-
-high_missing_refused : (low : StoreyWall) → in_range low ≡ false → range_result (range_read (Some low) None) ≡ refused 2
-high_missing_refused low failed = ap (λ (passed : Bool). range_result (Err (cond passed 1 2))) failed
-
--- 1
+-- What is handed back tells the refusal.
+err_of : (given : Result RangeAnswer ℕ) (n : ℕ) → 0 < n → range_result given ≡ refused n → given ≡ Err n
+err_of (Ok answered) n above is = absurd (let no· : ⊥ = omega (arith, above, ap (λ (r : RangeResult). r.refusal) is) in no·)
+err_of (Err k) n above is = ap Err (ap (λ (r : RangeResult). r.refusal) is)
 
 -- No refusal of two records has the number 1.
-never_1 : (low high : StoreyWall) → (range_result (check low high)).refusal ≡ 1 → ⊥
+never_1 : (low high : StoreyWall) → check low high ≡ Err 1 → ⊥
 never_1 low high one =
     true≢false
-    (sym (first_or_cases Err (λ given. not (eqb (range_result given).refusal 1) ≡ true) (λ n. not (eqb n 1)) (refusals low high) refl (λ n is. is) (λ none. refl))
-    ∙ ap (λ (n : ℕ). not (eqb n 1)) one)
+    (sym (first_or_cases Err (λ given. not (eqb (refusal_number given) 1) ≡ true) (λ n. not (eqb n 1)) (refusals low high) refl (λ n is. is) (λ none. refl))
+    ∙ ap (λ (given : Result RangeAnswer ℕ). not (eqb (refusal_number given) 1)) one)
 
-abbrev NotStoreyLine : List ℕ → Type 0
-NotStoreyLine line = (wall : StoreyWall) → StoreyLine line wall → ⊥
+-- Behind a low record the high line may be missing.
+high_missing_refused : (low : StoreyWall) (passed : Bool) → in_range low ≡ passed → range_read (Some low) None ≡ Err (cond passed 1 2)
+high_missing_refused low passed is = ap (λ (b : Bool). Err (cond b 1 2)) is
 
--- The low line is an `S` line in range, and the high one is none.
-abbrev HighMissing : (low high : List ℕ) → Type 0
-HighMissing low high = (wall : StoreyWall) × (StoreyLine low wall × (in_range wall ≡ true) × NotStoreyLine high)
+low_refused : (low : StoreyWall) (high : Option StoreyWall) → in_range low ≡ false → range_read (Some low) high ≡ Err 2
+low_refused low None failed = high_missing_refused low false failed
+low_refused low (Some other) failed = (refused_as_2_exactly low other).1 (rw failed refl)
 
-not_read : (line : List ℕ) → read_storey line ≡ None → NotStoreyLine line
-not_read line read wall is = none-some wall (sym read ∙ ap read_storey is.1 ∙ read_storey_complete wall is.0)
+-- What a line is read as, and back.
+
+is_read : (line : List ℕ) (wall : StoreyWall) → StoreyLine line wall → read_storey line ≡ Some wall
+is_read line wall is = ap read_storey is.1 ∙ read_storey_complete wall is.0
 
 none_is_read : (line : List ℕ) → NotStoreyLine line → read_storey line ≡ None
 none_is_read line none = read_storey_none line (λ wall nine is. none wall (nine, is))
 
-high_missing : (low high : List ℕ) (wall : StoreyWall) → StoreyLine low wall → NotStoreyLine high →
-    (b : Bool) → in_range wall ≡ b → range_result (range_read (Some wall) None) ≡ refused 1 → HighMissing low high
-high_missing low high wall is none true passed one = (wall, (is, passed, none))
-high_missing low high wall is none false failed one =
-    absurd (let no· : ⊥ = omega (arith, ap (λ (r : RangeResult). r.refusal) (sym one ∙ high_missing_refused wall failed)) in no·)
+not_read : (line : List ℕ) → read_storey line ≡ None → NotStoreyLine line
+not_read line read wall is = none-some wall (sym read ∙ is_read line wall is)
 
-refused_1_from : (low high : List ℕ) (l h : Option StoreyWall) → read_storey low ≡ l → read_storey high ≡ h →
-    range_result (range_read l h) ≡ refused 1 → NotStoreyLine low ⊎ HighMissing low high
-refused_1_from low high None h read read' one = inl (not_read low read)
-refused_1_from low high (Some wall) None read read' one =
-    inr (high_missing low high wall (read_storey_sound low wall read) (not_read high read') (in_range wall) refl one)
-refused_1_from low high (Some wall) (Some other) read read' one = absurd (never_1 wall other (ap (λ (r : RangeResult). r.refusal) one))
+-- The answer for two lines, by what each is read as.
+lines_read : (low high : List ℕ) (l h : Option StoreyWall) → read_storey low ≡ l → read_storey high ≡ h → range_lines low high ≡ range_result (range_read l h)
+lines_read low high l h read read' = ap₂ (λ (l h : Option StoreyWall). range_result (range_read l h)) read read'
 
-to_refused_1 : (low high : List ℕ) → NotStoreyLine low ⊎ HighMissing low high → range_lines low high ≡ refused 1
-to_refused_1 low high (inl none) = ap (λ (l : Option StoreyWall). range_result (range_read l (read_storey high))) (none_is_read low none)
-to_refused_1 low high (inr missing) =
-    let wall = missing.0 in
-    let is = missing.1 in
-    ap₂ (λ (l h : Option StoreyWall). range_result (range_read l h)) (ap read_storey is.0.1 ∙ read_storey_complete wall is.0.0) (none_is_read high is.2)
-    ∙ (rw is.1 refl)
+-- 1
+
+missing_1 : (low high : List ℕ) (wall : StoreyWall) → StoreyLine low wall → NotStoreyLine high →
+    (passed : Bool) → in_range wall ≡ passed → range_read (Some wall) None ≡ Err 1 → LineInRange low true × NotStoreyLine high
+missing_1 low high wall is none true passed one = ((wall, (is, passed)), none)
+missing_1 low high wall is none false failed one =
+    absurd (let no· : ⊥ = omega (arith, ap refusal_number (sym one ∙ high_missing_refused wall false failed)) in no·)
+
+from_1 : (low high : List ℕ) (l h : Option StoreyWall) → read_storey low ≡ l → read_storey high ≡ h →
+    range_read l h ≡ Err 1 → NotStoreyLine low ⊎ (LineInRange low true × NotStoreyLine high)
+from_1 low high None h read read' one = inl (not_read low read)
+from_1 low high (Some wall) None read read' one =
+    inr (missing_1 low high wall (read_storey_sound low wall read) (not_read high read') (in_range wall) refl one)
+from_1 low high (Some wall) (Some other) read read' one = absurd (never_1 wall other one)
+
+to_1 : (low high : List ℕ) → NotStoreyLine low ⊎ (LineInRange low true × NotStoreyLine high) → range_lines low high ≡ refused 1
+to_1 low high (inl none) = lines_read low high None (read_storey high) (none_is_read low none) refl
+to_1 low high (inr missing) =
+    let wall = missing.0.0 in
+    lines_read low high (Some wall) None (is_read low wall missing.0.1.0) (none_is_read high missing.1)
+    ∙ ap range_result (high_missing_refused wall true missing.0.1.1)
 
 pub range_not_a_line : RangeNotALine
-range_not_a_line low high = (refused_1_from low high (read_storey low) (read_storey high) refl refl, to_refused_1 low high)
+range_not_a_line low high = (
+  (λ one. from_1 low high (read_storey low) (read_storey high) refl refl (err_of (range_read (read_storey low) (read_storey high)) 1 (omega arith) one)),
+  to_1 low high,
+)
+
+-- 2
+
+missing_2 : (low : List ℕ) (wall : StoreyWall) → StoreyLine low wall → (passed : Bool) → in_range wall ≡ passed →
+    range_read (Some wall) None ≡ Err 2 → LineInRange low false
+missing_2 low wall is true passed two =
+    absurd (let no· : ⊥ = omega (arith, ap refusal_number (sym two ∙ high_missing_refused wall true passed)) in no·)
+missing_2 low wall is false failed two = (wall, (is, failed))
+
+one_out_of_range : (low high : List ℕ) (wall other : StoreyWall) → StoreyLine low wall → StoreyLine high other →
+    (b b' : Bool) → in_range wall ≡ b → in_range other ≡ b' → (b && b') ≡ false → LineInRange low false ⊎ (LineInRange low true × LineInRange high false)
+one_out_of_range low high wall other is is' true true passed passed' failed = absurd (true≢false failed)
+one_out_of_range low high wall other is is' true false passed passed' failed = inr ((wall, (is, passed)), (other, (is', passed')))
+one_out_of_range low high wall other is is' false b' passed passed' failed = inl (wall, (is, passed))
+
+from_2 : (low high : List ℕ) (l h : Option StoreyWall) → read_storey low ≡ l → read_storey high ≡ h →
+    range_read l h ≡ Err 2 → LineInRange low false ⊎ (LineInRange low true × LineInRange high false)
+from_2 low high None h read read' two = absurd (let no· : ⊥ = omega (arith, ap refusal_number two) in no·)
+from_2 low high (Some wall) None read read' two = inl (missing_2 low wall (read_storey_sound low wall read) (in_range wall) refl two)
+from_2 low high (Some wall) (Some other) read read' two =
+    one_out_of_range low high wall other (read_storey_sound low wall read) (read_storey_sound high other read') (in_range wall) (in_range other) refl refl
+    ((refused_as_2_exactly wall other).0 two)
+
+to_2 : (low high : List ℕ) → LineInRange low false ⊎ (LineInRange low true × LineInRange high false) → range_lines low high ≡ refused 2
+to_2 low high (inl out) =
+    lines_read low high (Some out.0) (read_storey high) (is_read low out.0 out.1.0) refl ∙ ap range_result (low_refused out.0 (read_storey high) out.1.1)
+to_2 low high (inr out) =
+    let wall = out.0.0 in
+    let other = out.1.0 in
+    lines_read low high (Some wall) (Some other) (is_read low wall out.0.1.0) (is_read high other out.1.1.0)
+    ∙ ap range_result ((refused_as_2_exactly wall other).1 (rw (out.0.1.1, out.1.1.1) refl))
+
+pub range_out_of_range : RangeOutOfRange
+range_out_of_range low high = (
+  (λ two. from_2 low high (read_storey low) (read_storey high) refl refl (err_of (range_read (read_storey low) (read_storey high)) 2 (omega arith) two)),
+  to_2 low high,
+)
 
 -- Rows: what turns into the records of their numbers, whether rows or cells.
 
@@ -146,8 +195,8 @@ module _ (es es' : List Entry) (own : TurnIntoTheirRecord es) (own' : TurnIntoTh
           let w = entries_wall es in
           let w' = entries_wall es' in
           absurd (none w w' passed passed' ((own w (small w passed)).0 refl) ((own' w' (small w' passed')).0 refl))
-      by_range true false passed failed' = second_refused (entries_wall es) (entries_wall es') passed failed'
-      by_range false b' failed is' = first_refused (entries_wall es) (entries_wall es') failed
+      by_range true false passed failed' = ap range_result ((refused_as_2_exactly (entries_wall es) (entries_wall es')).1 (rw (passed, failed') refl))
+      by_range false b' failed is' = ap range_result ((refused_as_2_exactly (entries_wall es) (entries_wall es')).1 (rw failed refl))
 
 pub range_rows_are_lines : RangeRowsAreLines
 range_rows_are_lines low high = are_the_lines (entries low) (entries high) (row_is_its_numbers low) (row_is_its_numbers high)

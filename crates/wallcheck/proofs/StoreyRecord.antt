@@ -1,4 +1,4 @@
--- Laws of the checks that take `S` records alone, over any such check with a number beside the record.
+-- Laws of the checks that take `S` records alone: what a line is read as; and, over any such check with a number beside the record, its entries.
 use Rattle.std.proofs.Common.{Option, Some, None, Float}
 use Prim.Native.Nat.{ℕ, ◌<◌, ◌^◌}
 use mathlib.Core.Bool.{Bool, true, false}
@@ -21,7 +21,7 @@ use Rattle.line.proofs.Claims.{reading_sound, reading_complete}
 use Rattle.worksheet.specs.Cell.{cell_bound, cell_number}
 use Rattle.worksheet.specs.Entry.{Entry, entries_wall, TurnIntoTheirRecord}
 use Rattle.worksheet.proofs.Number.{cell_is_its_value}
-use Rattle.wallcheck.specs.StoreyRecord.{storey_alone, read_storey, result_beside, RefusesAllButStoreyLines, ChecksStoreyRecords, IsTheLineBeside, RefusedOtherwiseBeside}
+use Rattle.wallcheck.specs.StoreyRecord.{storey_alone, read_storey, StoreyLine, result_beside, RefusesAllButStoreyLines, ChecksStoreyRecords, IsTheLineBeside, RefusedOtherwiseBeside}
 
 -- What a line is read as: the record of an `S` line of the form; None for any other line.
 
@@ -29,14 +29,14 @@ pub read_storey_complete : (wall : StoreyWall) → NineDigits (numbers wall) →
 unfolding read_storey
 read_storey_complete wall nine = ap storey_alone (reading_complete (Storey wall) nine)
 
-pub read_storey_sound : (line : List ℕ) (wall : StoreyWall) → read_storey line ≡ Some wall → NineDigits (numbers wall) × (line ≡ line_of (Storey wall))
+pub read_storey_sound : (line : List ℕ) (wall : StoreyWall) → read_storey line ≡ Some wall → StoreyLine line wall
 unfolding read_storey
 read_storey_sound line wall = by_reading (read_line line) refl
   where
-    by_reading : (r : Option Wall) → read_line line ≡ r → storey_alone r ≡ Some wall → NineDigits (numbers wall) × (line ≡ line_of (Storey wall))
+    by_reading : (r : Option Wall) → read_line line ≡ r → storey_alone r ≡ Some wall → StoreyLine line wall
     by_reading (Some (Storey found)) read is =
         let sound = reading_sound line (Storey found) read in
-        subst (λ (w : StoreyWall). NineDigits (numbers w) × (line ≡ line_of (Storey w))) (same_Some found wall is) (sound.1, sound.0)
+        subst (StoreyLine line) (same_Some found wall is) (sound.1, sound.0)
     by_reading (Some (Cellar found)) read is = absurd (none-some wall is)
     by_reading None read is = absurd (none-some wall is)
 

@@ -1,5 +1,5 @@
 -- The entries of document 02, #109, for every two lines and rows: what each answers, and what is claimed of it.
-use Rattle.std.specs.Prelude.{ℕ, cond, true, List, ◌⊎◌, ◌↔◌, ◌≡◌, Result, Err, Option, Some, None}
+use Rattle.std.specs.Prelude.{ℕ, Bool, cond, true, false, List, ◌⊎◌, ◌↔◌, ◌≡◌, Result, Err, Option, Some, None}
 use Rattle.basis.specs.Result.{Accepted}
 use Rattle.storey.specs.declared.StoreyWall.{StoreyWall}
 use Rattle.storey.specs.Record.{numbers}
@@ -17,7 +17,7 @@ use Rattle.worksheet.specs.Row.{entries, row_wall}
 use Rattle.worksheet.specs.declared.cells.Cells.{Cells}
 use Rattle.worksheet.specs.Cells.{cell_entries, cells_wall}
 use Rattle.wallcheck.specs.Entry.{line_result}
-use Rattle.wallcheck.specs.StoreyRecord.{read_storey}
+use Rattle.wallcheck.specs.StoreyRecord.{read_storey, StoreyLine}
 
 -- The answer for what was read. "A line that document 01 refuses as 1 or 2 is refused so here, low record first"; None is refusal 1, a `C` line too.
 abbrev pub range_read : (low high : Option StoreyWall) → Result RangeAnswer ℕ
@@ -36,9 +36,9 @@ range_rows low high = range_result (range_read (Some (row_wall low)) (Some (row_
 abbrev pub range_cells : (low high : Cells) → RangeResult
 range_cells low high = range_result (range_read (Some (cells_wall low)) (Some (cells_wall high)))
 
--- "a refusal stands with 0 in place of the 1, 2 or 3"
+-- A refusal, as two numbers.
 abbrev pub refused : ℕ → RangeResult
-refused n = record { refusal = n; answer = 0 }
+refused n = range_result (Err n)
 
 -- ---- what is claimed of them
 
@@ -48,16 +48,24 @@ RangeLinesOfRecords =
     (low high : StoreyWall) → NineDigits (numbers low) → NineDigits (numbers high) →
     range_lines (line_of (Storey low)) (line_of (Storey high)) ≡ answers low high
 
--- 1, exactly: the low line is not an `S` line of the form; or it is one, in range, and the high line is not.
-abbrev pub StoreyLine : List ℕ → StoreyWall → Type 0
-StoreyLine line wall = NineDigits (numbers wall) × (line ≡ line_of (Storey wall))
+-- An `S` line, in range or not.
+abbrev pub LineInRange : List ℕ → (passed : Bool) → Type 0
+LineInRange line passed = (wall : StoreyWall) × (StoreyLine line wall × (in_range wall ≡ passed))
 
+abbrev pub NotStoreyLine : List ℕ → Type 0
+NotStoreyLine line = (wall : StoreyWall) → StoreyLine line wall → ⊥
+
+-- 1, exactly: the low line is not an `S` line of the form; or it is one, in range, and the high line is not.
 abbrev pub RangeNotALine : Type 0
 RangeNotALine =
     (low high : List ℕ) →
-    (range_lines low high ≡ refused 1)
-    ↔ (((wall : StoreyWall) → StoreyLine low wall → ⊥)
-    ⊎ ((wall : StoreyWall) × (StoreyLine low wall × (in_range wall ≡ true) × ((other : StoreyWall) → StoreyLine high other → ⊥))))
+    (range_lines low high ≡ refused 1) ↔ (NotStoreyLine low ⊎ (LineInRange low true × NotStoreyLine high))
+
+-- 2, exactly: the low line is an `S` line out of range, whatever the high line is; or the low one is in range, and the high line is an `S` line out of range.
+abbrev pub RangeOutOfRange : Type 0
+RangeOutOfRange =
+    (low high : List ℕ) →
+    (range_lines low high ≡ refused 2) ↔ (LineInRange low false ⊎ (LineInRange low true × LineInRange high false))
 
 -- "Its result equals that of the line with the same numbers.": of what stands in the places of two records' numbers.
 abbrev pub AreTheLines : (es es' : List Entry) → RangeResult → Type 0
@@ -82,8 +90,8 @@ RangeOtherRowsRefused = (low high : Row) → RefusedOtherwise (entries low) (ent
 abbrev pub RangeOtherCellsRefused : Type 0
 RangeOtherCellsRefused = (low high : Cells) → RefusedOtherwise (cell_entries low) (cell_entries high) (range_cells low high)
 
--- "1 if every record between them is accepted, 2 if none is, 3 otherwise, each exactly then", for the lines of the records. One that is out of range, or where
--- 25 applies, has no answer.
+-- "1 if every record between them is accepted, 2 if none is, 3 otherwise, each exactly then", for the lines of the records. Two lines of which one is out of range,
+-- or to which 25 applies, have none of these answers.
 
 abbrev pub LineAccepted : StoreyWall → Type 0
 LineAccepted wall = Accepted (line_result (line_of (Storey wall)))

@@ -1,4 +1,4 @@
--- Checks that take `S` records alone, with a number beside the record: what a line is read as, and what is claimed of the entries of every such check.
+-- Checks that take `S` records alone: what a line is read as; and of those with a number beside the record, what is claimed of the entries of every such check.
 use Rattle.std.specs.Prelude.{ℕ, ◌<◌, true, Bool, List, ◌↔◌, ◌≡◌, Float, Option, Some, None}
 use Rattle.basis.specs.declared.CheckResult.{CheckResult}
 use Rattle.basis.specs.Result.{refused_with}
@@ -20,6 +20,10 @@ storey_alone None = None
 -- The storey record of a line, or None, which is refusal 1.
 unfoldable pub read_storey : List ℕ → Option StoreyWall
 read_storey line = storey_alone (read_line line)
+
+-- A line is the `S` line of a record.
+abbrev pub StoreyLine : List ℕ → StoreyWall → Type 0
+StoreyLine line wall = NineDigits (numbers wall) × (line ≡ line_of (Storey wall))
 
 -- The result of what was read, by a check of the record and the number beside it.
 abbrev pub result_beside : (StoreyWall → ℕ → CheckResult) → Option StoreyWall → ℕ → CheckResult

@@ -1,14 +1,14 @@
 // Checks that take `S` records alone: with a number beside the record, document 02, #106; of a low and a high record, #109.
 ghost use Rattle.std.specs.Prelude.{ℕ, ◌≡◌, Option, Some};
 ghost use Rattle.basis.specs.declared.CheckResult.{CheckResult};
+ghost use Rattle.basis.specs.Refusal.{numbered};
 ghost use Rattle.storey.specs.declared.StoreyWall.{StoreyWall};
+ghost use Rattle.early_design.specs.Check.{range_result};
 ghost use Rattle.worksheet.specs.Cell.{cell_number};
 ghost use Rattle.worksheet.specs.Row.{row_wall};
 ghost use Rattle.worksheet.specs.Cells.{cells_wall};
 ghost use Rattle.wallcheck.specs.StoreyRecord.{read_storey, result_beside};
 ghost use Rattle.wallcheck.specs.MinimumLoad.{check};
-ghost use Rattle.basis.specs.Refusal.{numbered};
-ghost use Rattle.early_design.specs.Check.{range_result};
 ghost use Rattle.wallcheck.specs.EarlyDesign.{range_read};
 
 use crate::Checked;

@@ -19,13 +19,13 @@ use Rattle.storey.proofs.Range.{in_ranges}
 use Rattle.walls.proofs.Comparison.{storey_comparison}
 use Rattle.early_design.specs.Between.{Between}
 use Rattle.early_design.specs.Check.{with_six_of, refusals}
-use Rattle.early_design.specs.Corners.{worst_of, best_of}
+use Rattle.early_design.specs.WorstAndBest.{worst_of, best_of}
 use Rattle.early_design.specs.Claims.{LowAndHigh, BetweenInRange, TwoRecordsDecide}
 use Rattle.early_design.proofs.Between.{between_itself}
 use Rattle.early_design.proofs.Check.{not_refused_exactly}
 
 -- Equal lists, number by number.
-abbrev pub AllSame : List ℕ → List ℕ → Type 0
+abbrev AllSame : List ℕ → List ℕ → Type 0
 AllSame [] [] = Unit {0}
 AllSame [] (m ∷ ms) = ⊥
 AllSame (n ∷ ns) [] = ⊥
@@ -36,7 +36,7 @@ all_same_itself [] = tt
 all_same_itself (n ∷ ns) = (refl, all_same_itself ns)
 
 -- What the second has that is no worse than the first, of the six.
-pub record SixNoWorse (first second : StoreyWall) : Type 0 where
+record SixNoWorse (first second : StoreyWall) : Type 0 where
   pub dead : second.dead ≤ first.dead
   pub imposed : second.imposed ≤ first.imposed
   pub strength : first.strength ≤ second.strength
