@@ -1,5 +1,5 @@
--- Document 02, #109, as claims about the definitions; their proofs stand in proofs/Check.antt, WorstAndBest.antt and Claims.antt. "The check says 1 if every record between them is accepted, 2 if
--- none is, 3 otherwise, each exactly then."
+-- Document 02, #109, as claims about the definitions: "The check says 1 if every record between them is accepted, 2 if none is, 3 otherwise, each exactly
+-- then." Their proofs stand in proofs/Check.antt, WorstAndBest.antt and Claims.antt.
 use Rattle.std.specs.Prelude.{ℕ, ◌≤◌, true, false, ◌&&◌, ◌⊎◌, ◌↔◌, ◌≡◌, Err}
 use Rattle.basis.specs.Refusal.{NoneApplies}
 use Rattle.basis.specs.Result.{Accepted}
@@ -23,7 +23,7 @@ pub record LowAndHigh (low high : StoreyWall) : Type 0 where
   pub all_else : with_six_of high low ≡ high
   pub two_way : (low.otherspan ≡ 0) ⊎ (low.span ≡ high.span)
 
--- No refusal applies exactly where both are in range and are a low and a high record.
+-- No refusal applies, exactly where both are in range and are a low and a high record.
 abbrev pub NotRefusedExactly : Type 0
 NotRefusedExactly =
     (low high : StoreyWall) →
