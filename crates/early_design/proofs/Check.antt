@@ -13,7 +13,7 @@ use Rattle.basis.proofs.Choice.{and_left, and_right, and_none, or_left, or_right
 use Rattle.storey.specs.declared.StoreyWall.{StoreyWall}
 use Rattle.storey.specs.Record.{numbers, storey_of}
 use Rattle.storey.specs.Range.{in_range}
-use Rattle.early_design.specs.Check.{low_above_high, with_six_of, same_numbers, another_differs, two_way_span_differs, not_low_and_high, refusals, answer, range_result}
+use Rattle.early_design.specs.Check.{low_above_high, with_six_of, same_numbers, another_differs, two_way_span_differs, not_low_and_high, refusals, answer, check, range_result}
 use Rattle.early_design.specs.declared.RangeAnswer.{RangeAnswer}
 use Rattle.early_design.specs.Claims.{LowAndHigh, NotRefusedExactly, RefusedAs2Exactly, RefusedAs25Exactly}
 
@@ -26,11 +26,13 @@ by_tests passed passed' apart given = cond (not passed) (Err 2) (cond (not passe
 
 -- 2
 
-to_2 : (passed passed' apart : Bool) (given : RangeAnswer) → (passed && passed') ≡ false → by_tests passed passed' apart given ≡ Err 2
-unfolding by_tests
-to_2 true true apart given failed = absurd (true≢false failed)
-to_2 true false apart given failed = refl
-to_2 false passed' apart given failed = refl
+to_2 : (low high : StoreyWall) → (in_range low && in_range high) ≡ false → check low high ≡ Err 2
+unfolding first_or
+to_2 low high = by_low (in_range low) refl
+  where
+    by_low : (b : Bool) → in_range low ≡ b → (b && in_range high) ≡ false → check low high ≡ Err 2
+    by_low true passed failed = rw (passed, failed) refl
+    by_low false failed either = rw failed refl
 
 from_2 : (passed passed' apart : Bool) (given : RangeAnswer) → refusal_number (by_tests passed passed' apart given) ≡ 2 → (passed && passed') ≡ false
 unfolding refusal_number by_tests
@@ -42,10 +44,7 @@ from_2 false passed' apart given is = refl
 pub refused_as_2_exactly : RefusedAs2Exactly
 unfolding first_or refusal_number by_tests
 refused_as_2_exactly low high =
-    let apart = not_low_and_high low high in (
-      (λ is. from_2 (in_range low) (in_range high) apart (answer low high) (ap refusal_number is)),
-      (λ failed. to_2 (in_range low) (in_range high) apart (answer low high) failed),
-    )
+    ((λ is. from_2 (in_range low) (in_range high) (not_low_and_high low high) (answer low high) (ap refusal_number is)), to_2 low high)
 
 same_numbers_are : (ns ms : List ℕ) → same_numbers ns ms ≡ true → ns ≡ ms
 same_numbers_are [] [] same = refl

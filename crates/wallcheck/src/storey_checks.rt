@@ -116,14 +116,19 @@ impl<R: StoreyRecordSource> DesignRange<R> {
         RangeResult::from(self.answer())
     }
 
+    // What the low record has comes before what the high one has.
     fn answer(self) -> Result<RangeAnswer, Refusal>
         ensures { numbered result ≡ range_read (R.read_as self.0) (R.read_as self.1) }
     {
         let DesignRange(low, high) = self;
         match (low.storey_wall(), high.storey_wall()) {
+            (None, _) => Err(Refusal::NotALine),
+            (Some(low), None) => Err(basis::first_refusal(
+                Refusal::OutOfRange,
+                !low.in_range(),
+                Refusal::NotALine,
+            )),
             (Some(low), Some(high)) => WallRange { low, high }.check(),
-            (Some(low), None) if !low.in_range() => Err(Refusal::OutOfRange),
-            _ => Err(Refusal::NotALine),
         }
     }
 }
