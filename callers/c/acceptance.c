@@ -200,14 +200,25 @@ static void run_minimum_load_row_case(const char *row, const char *columns)
     run_minimum_load_row(row, cells_of(row), strtod(columns, NULL), result_behind_wind(row, columns));
 }
 
-static wallcheck_range range_of(const char *numbers)
+/* A refusal and the number behind it, an answer or a count. */
+struct refusal_and_number {
+    unsigned long long refusal, number;
+};
+
+static struct refusal_and_number two_numbers(const char *numbers)
 {
-    unsigned long long refusal, answer;
-    if (sscanf(numbers, "%llu %llu", &refusal, &answer) != 2) {
-        fprintf(stderr, "c: not refusal and answer: %s\n", numbers);
+    struct refusal_and_number two;
+    if (sscanf(numbers, "%llu %llu", &two.refusal, &two.number) != 2) {
+        fprintf(stderr, "c: not a refusal and a number: %s\n", numbers);
         exit(1);
     }
-    return (wallcheck_range){refusal, answer};
+    return two;
+}
+
+static wallcheck_range range_of(const char *numbers)
+{
+    struct refusal_and_number two = two_numbers(numbers);
+    return (wallcheck_range){two.refusal, two.number};
 }
 
 static int same_range(wallcheck_range x, wallcheck_range y)
@@ -306,12 +317,8 @@ static int same_archived(wallcheck_archived x, wallcheck_archived y)
 
 static wallcheck_archived archived_of(const char *numbers)
 {
-    unsigned long long refusal, count;
-    if (sscanf(numbers, "%llu %llu", &refusal, &count) != 2) {
-        fprintf(stderr, "c: not refusal and count: %s\n", numbers);
-        exit(1);
-    }
-    return (wallcheck_archived){refusal, count};
+    struct refusal_and_number two = two_numbers(numbers);
+    return (wallcheck_archived){two.refusal, two.number};
 }
 
 /* Writes the blocks of a text into a buffer of `out_len` bytes between guards: either all of them stand there afterwards, or
