@@ -55,6 +55,8 @@ impl StoreyRecordSource for &Row {
 impl StoreyRecordSource for &Cells {
     ghost read_as = { λ cells. Some (cells_wall cells.now) };
 
+    // Inlined at each of its callers: a call would copy the record.
+    #[inline(always)]
     fn storey_wall(self) -> Option<StoreyWall> {
         let wall = StoreyWall::from(*self);
         Some(wall)
