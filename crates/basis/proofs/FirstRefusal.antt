@@ -8,7 +8,7 @@ use borrow.Author.Tests.{ltb-true}
 use Rattle.std.specs.Prelude.{get_or, Ok, Err}
 use lib.Dec.{ltb}
 use Rattle.basis.specs.declared.Refusal.{Refusal}
-use Rattle.basis.specs.declared.Refusal.TheVariants.{NotALine, OutOfRange, WallTooThin, AreaTooSmall, UnfitForUse, WallTooHigh, FloorLoadTooGreat, BuildingTooHigh, SpanTooLong, BearingTooShallow, StrengthTooLow, WallTooSlender, LoadAboveResistance, CellarWallTooThin, CellarWallTooHigh, FillTooHigh, GroundLoadTooGreat, CellarLoadAboveResistance, DeadLoadBelowNeed, BufferTooShort, DeadLoadBelowMinimum, BlockDamaged, TextNotStored, NotLowAndHigh}
+use Rattle.basis.specs.declared.Refusal.TheVariants.{NotALine, OutOfRange, WallTooThin, AreaTooSmall, UnfitForUse, WallTooHigh, FloorLoadTooGreat, BuildingTooHigh, SpanTooLong, BearingTooShallow, StrengthTooLow, WallTooSlender, LoadAboveResistance, CellarWallTooThin, CellarWallTooHigh, FillTooHigh, GroundLoadTooGreat, CellarLoadAboveResistance, DeadLoadBelowNeed, BufferTooShort, DeadLoadBelowMinimum, BlockDamaged, TextNotStored, NotLowAndHigh, BadBlockList, NoBlockAccepted}
 use Rattle.basis.specs.Refusal.{number_of, first_or, first_of, NoneApplies}
 use Rattle.basis.specs.Check.{every_number}
 use Rattle.basis.proofs.Choice.{cond_cases, and_left, and_right, Implies, implies_false}
@@ -120,6 +120,8 @@ refusals =
     ∷ BlockDamaged
     ∷ TextNotStored
     ∷ NotLowAndHigh
+    ∷ BadBlockList
+    ∷ NoBlockAccepted
     ∷ []
 
 refusal_of : ℕ → Refusal
@@ -151,6 +153,8 @@ found_again DeadLoadBelowMinimum = refl
 found_again BlockDamaged = refl
 found_again TextNotStored = refl
 found_again NotLowAndHigh = refl
+found_again BadBlockList = refl
+found_again NoBlockAccepted = refl
 
 pub number_of_one : (r s : Refusal) → number_of r ≡ number_of s → r ≡ s
 number_of_one r s same = sym (found_again r) ∙ ap refusal_of same ∙ found_again s

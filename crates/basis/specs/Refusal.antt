@@ -1,9 +1,9 @@
 -- "The first that applies is given": refusals are a list of number and test, in document 01's order.
 use Rattle.std.specs.Prelude.{ℕ, Bool, false, cond, List, [], ◌∷◌, ◌≡◌, Result, Ok, Err}
 use Rattle.basis.specs.declared.Refusal.{Refusal}
-use Rattle.basis.specs.declared.Refusal.TheVariants.{NotALine, OutOfRange, WallTooThin, AreaTooSmall, UnfitForUse, WallTooHigh, FloorLoadTooGreat, BuildingTooHigh, SpanTooLong, BearingTooShallow, StrengthTooLow, WallTooSlender, LoadAboveResistance, CellarWallTooThin, CellarWallTooHigh, FillTooHigh, GroundLoadTooGreat, CellarLoadAboveResistance, DeadLoadBelowNeed, BufferTooShort, DeadLoadBelowMinimum, BlockDamaged, TextNotStored, NotLowAndHigh}
+use Rattle.basis.specs.declared.Refusal.TheVariants.{NotALine, OutOfRange, WallTooThin, AreaTooSmall, UnfitForUse, WallTooHigh, FloorLoadTooGreat, BuildingTooHigh, SpanTooLong, BearingTooShallow, StrengthTooLow, WallTooSlender, LoadAboveResistance, CellarWallTooThin, CellarWallTooHigh, FillTooHigh, GroundLoadTooGreat, CellarLoadAboveResistance, DeadLoadBelowNeed, BufferTooShort, DeadLoadBelowMinimum, BlockDamaged, TextNotStored, NotLowAndHigh, BadBlockList, NoBlockAccepted}
 
--- The number of each refusal: document 01's table, then document 02's: 21 of #106, 23 and 24 of #107, 25 of #109.
+-- The number of each refusal: document 01's table, then document 02's: 21 of #106, 23 and 24 of #107, 25 of #109, 26 and 27 of #110.
 abbrev pub number_of : Refusal → ℕ
 number_of NotALine = 1
 number_of OutOfRange = 2
@@ -29,6 +29,8 @@ number_of DeadLoadBelowMinimum = 21
 number_of BlockDamaged = 23
 number_of TextNotStored = 24
 number_of NotLowAndHigh = 25
+number_of BadBlockList = 26
+number_of NoBlockAccepted = 27
 
 -- What the code answers, with the number of the refusal in its place.
 abbrev pub numbered : {A : Type 0} → Result A Refusal → Result A ℕ

@@ -42,6 +42,9 @@ with_fill = with_number 2
 abbrev pub with_spacing : CellarWall → (c : ℕ) → CellarWall
 with_spacing = with_number 3
 
+abbrev pub with_strength : CellarWall → (F : ℕ) → CellarWall
+with_strength = with_number 5
+
 abbrev pub with_dead : CellarWall → (G : ℕ) → CellarWall
 with_dead = with_number 7
 

@@ -27,7 +27,7 @@ impl StoreyWall {
 
     const RANGE_GREATEST_SPAN: u64 = 20000;
 
-    const RANGE_GREATEST_STRENGTH: u64 = 5000;
+    pub const RANGE_GREATEST_STRENGTH: u64 = 5000;
 
     const RANGE_GREATEST_BONDED: u64 = 1;
 

@@ -1,0 +1,6 @@
+-- Laws of the definitions, and the proofs of what is claimed.
+pub mod Blocks
+pub mod Places
+pub mod Standing
+pub mod Refusals
+pub mod Claims
