@@ -4,3 +4,4 @@ pub mod Places
 pub mod Standing
 pub mod Refusals
 pub mod Claims
+pub mod Figures

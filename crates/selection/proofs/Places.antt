@@ -1,13 +1,13 @@
 -- Laws of the places of a list, counted from 1, and of what holds of its accepted blocks.
 use Prim.Native.Nat.{ℕ, zero, suc, ◌+◌, ◌≤◌, ◌<◌}
-use mathlib.Core.Bool.{Bool, true, false, cond, not, ◌&&◌}
+use mathlib.Core.Bool.{Bool, true, false, cond, not, ◌&&◌, ◌||◌}
 use mathlib.Core.List.{List, [], ◌∷◌, ◌++◌}
 use mathlib.Core.Logic.{◌⊎◌, inl, inr}
 use mathlib.Core.Path.{◌≡◌, ◌∙◌, refl, sym, ap, subst}
 use native.Mathlib.Omega.{arith}
 use lib.ListN.{length}
 use Rattle.std.proofs.Common.{Option, Some, None}
-use Rattle.std.specs.List.{list_all, position, position_or_len}
+use Rattle.std.specs.List.{filter, list_all, position, position_or_len}
 use borrow.Author.Tests.{lt-ltb, le-ltb}
 use Rattle.basis.proofs.Choice.{and_left, and_right}
 use Rattle.walls.specs.declared.Wall.{Wall}
@@ -67,28 +67,43 @@ module _ (test : Block → Bool) where
   pub no_place : (blocks : List Block) → ((k : ℕ) (other : Block) → At blocks k other → test other ≡ false) → position test blocks ≡ None
   no_place blocks none = rw (none_length blocks none, le-ltb (length blocks) (length blocks) (omega arith)) refl
 
--- ---- what holds of every accepted block of a list
+-- ---- a test that holds of every block of a list
 
-module _ (wall : Wall) (test : Block → Bool) where
+module _ (test : Block → Bool) where
   -- .. holds of each that stands in it,
-  pub each_accepted : {blocks : List Block} {k : ℕ} {block : Block} → list_all test (accepted_blocks wall blocks) ≡ true → At blocks k block →
-      accepted wall block ≡ true → test block ≡ true
-  each_accepted {blocks = []} all at is = elim at [ ]
-  each_accepted {blocks = b ∷ blocks} all first is = and_left (test b) _ (subst (λ (p : Bool). list_all test (cond p (b ∷ accepted_blocks wall blocks) (accepted_blocks wall blocks)) ≡ true) is all)
-  each_accepted {blocks = b ∷ blocks} all (later at) is = each_accepted (others (accepted wall b) all) at is
-    where
-      others : (p : Bool) → list_all test (cond p (b ∷ accepted_blocks wall blocks) (accepted_blocks wall blocks)) ≡ true →
-          list_all test (accepted_blocks wall blocks) ≡ true
-      others true all = and_right (test b) _ all
-      others false all = all
+  pub each_at : {blocks : List Block} {k : ℕ} {block : Block} → list_all test blocks ≡ true → At blocks k block → test block ≡ true
+  each_at {blocks = []} all at = elim at [ ]
+  each_at {blocks = b ∷ blocks} all first = and_left (test b) (list_all test blocks) all
+  each_at {blocks = b ∷ blocks} all (later at) = each_at (and_right (test b) (list_all test blocks) all) at
 
   -- .. and what holds of each holds of all.
+  pub all_at : (blocks : List Block) → ((k : ℕ) (block : Block) → At blocks k block → test block ≡ true) → list_all test blocks ≡ true
+  all_at [] each = refl
+  all_at (b ∷ blocks) each = rw (each 1 b first) (all_at blocks (λ k block at. each (suc k) block (later at)))
+
+-- .. and of every accepted block: to ask the accepted ones is to ask of each that it is not accepted or passes.
+
+all_filtered : (keep test : Block → Bool) (blocks : List Block) → list_all test (filter keep blocks) ≡ list_all (λ b. not (keep b) || test b) blocks
+all_filtered keep test [] = refl
+all_filtered keep test (b ∷ blocks) = go (keep b) (all_filtered keep test blocks)
+  where
+    go : (kept : Bool) → list_all test (filter keep blocks) ≡ list_all (λ b. not (keep b) || test b) blocks →
+        list_all test (cond kept (b ∷ filter keep blocks) (filter keep blocks)) ≡ ((not kept || test b) && list_all (λ b. not (keep b) || test b) blocks)
+    go true same = ap (λ (all : Bool). test b && all) same
+    go false same = same
+
+module _ (wall : Wall) (test : Block → Bool) where
+  pub each_accepted : {blocks : List Block} {k : ℕ} {block : Block} → list_all test (accepted_blocks wall blocks) ≡ true → At blocks k block →
+      accepted wall block ≡ true → test block ≡ true
+  each_accepted {blocks = blocks} all at is =
+      rw is at (each_at (λ b. not (accepted wall b) || test b) (sym (all_filtered (accepted wall) test blocks) ∙ all) at)
+
   pub all_accepted : (blocks : List Block) → ((k : ℕ) (block : Block) → At blocks k block → accepted wall block ≡ true → test block ≡ true) →
       list_all test (accepted_blocks wall blocks) ≡ true
-  all_accepted [] each = refl
-  all_accepted (b ∷ blocks) each = go (accepted wall b) refl (all_accepted blocks (λ k block at. each (suc k) block (later at)))
+  all_accepted blocks each =
+      all_filtered (accepted wall) test blocks
+      ∙ all_at (λ b. not (accepted wall b) || test b) blocks (λ k block at. passes block (accepted wall block) refl (each k block at))
     where
-      go : (p : Bool) → accepted wall b ≡ p → list_all test (accepted_blocks wall blocks) ≡ true →
-          list_all test (cond p (b ∷ accepted_blocks wall blocks) (accepted_blocks wall blocks)) ≡ true
-      go true is all = rw (each 1 b first is) all
-      go false isnt all = all
+      passes : (block : Block) (kept : Bool) → accepted wall block ≡ kept → (accepted wall block ≡ true → test block ≡ true) → (not kept || test block) ≡ true
+      passes block true is passed = passed is
+      passes block false isnt passed = refl
