@@ -7,15 +7,18 @@ ghost use Rattle.archive.specs.Block.{read_block};
 ghost use Rattle.archive.specs.Entry.{block_count, written_into, yielded_count, archived};
 ghost use Rattle.wallcheck.specs.MinimumLoad.{minimum_load_line, minimum_load_cells};
 ghost use Rattle.wallcheck.specs.EarlyDesign.{range_lines, range_cells};
+ghost use Rattle.wallcheck.specs.BlockChoice.{choice_line};
 
 use archive::Archived;
 use basis::CheckResult;
 use early_design::RangeResult;
+use selection::{Block, Choice};
+use wallcheck::block_choice;
 use wallcheck::storey_checks::{DesignRange, MinimumLoad};
 use wallcheck::{Checked, CountedResult};
 use worksheet::cells::Cells;
 
-const EDITION: u64 = 109;
+const EDITION: u64 = 110;
 
 // Which rules a result is computed by. Offices file it with their results.
 #[unsafe(no_mangle)]
@@ -136,4 +139,13 @@ pub extern "C" fn wallcheck_range_rows(low: Cells, high: Cells) -> RangeResult
     ensures { result ≡ range_cells low high }
 {
     DesignRange(&low, &high).check()
+}
+
+// Document 02, #110: the cheapest block that a record is accepted with.
+
+#[unsafe(no_mangle)]
+pub extern "C" fn wallcheck_choose(line: &[u8], blocks: &[Block]) -> Choice
+    ensures { result ≡ choice_line line.now blocks.now }
+{
+    block_choice::choose(line, blocks)
 }

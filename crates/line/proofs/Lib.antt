@@ -6,4 +6,5 @@ pub mod Steps
 pub mod Completeness
 pub mod Soundness
 pub mod Claims
+pub mod LongLine
 pub mod Beginning

@@ -13,6 +13,14 @@ unfoldable pub result_text : CheckResult → List ℕ
 result_text r =
     decimal r.refusal ++ 32 ∷ decimal r.second ++ 32 ∷ decimal r.load ++ 32 ∷ decimal r.resistance ++ 32 ∷ signed r.spare ++ 10 ∷ []
 
+-- Document 02, #110, has three numbers: in the same way, and 64 bytes are enough whatever they are.
+unfoldable pub numbers_text : (first second third : ℕ) → List ℕ
+numbers_text first second third = decimal first ++ 32 ∷ decimal second ++ 32 ∷ decimal third ++ 10 ∷ []
+
+abbrev pub NumbersFit : Type 0
+NumbersFit =
+    (first second third : ℕ) → first < 2 ^ 64 → second < 2 ^ 64 → third < 2 ^ 64 → length (numbers_text first second third) ≤ 64
+
 -- A buffer of 64 bytes is enough for five numbers of at most 11 digits each: with the sign, the spaces and byte 10 these are at most 61.
 abbrev pub TextFits : Type 0
 TextFits =

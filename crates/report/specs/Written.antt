@@ -10,9 +10,8 @@ pub record Written : Type 0 where
 
 -- The buffer with the text from its first byte on, "bytes after that are untouched", and the text's length. Where the text does not fit,
 -- the buffer as it was, and 0.
+abbrev pub text_written : (text buffer : List ℕ) → Written
+text_written text buffer = record { buffer = overwrite buffer 0 text; count = cond (leb (length text) (length buffer)) (length text) 0 }
+
 abbrev pub written : CheckResult → List ℕ → Written
-written r buffer =
-    record {
-      buffer = overwrite buffer 0 (result_text r);
-      count = cond (leb (length (result_text r)) (length buffer)) (length (result_text r)) 0;
-    }
+written r buffer = text_written (result_text r) buffer

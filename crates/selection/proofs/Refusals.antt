@@ -28,7 +28,7 @@ use Rattle.selection.specs.declared.Block.{Block}
 use Rattle.selection.specs.declared.Choice.{Choice}
 use Rattle.selection.specs.Blocks.{ranges, in_range as block_in_range, bad_list}
 use Rattle.selection.specs.Choice.{with_strength, accepted, better, best, before_best, price_competes, is_checked, checked_behind, checked_count, chosen, refused, refusals, choice}
-use Rattle.selection.specs.Claims.{At, GoodListExactly, RefusedAs26Exactly, RefusedAs2Exactly, StrengthInRange, OwnStrengthPlaysNoPart}
+use Rattle.selection.specs.Claims.{At, GoodListExactly, RefusedAs26Exactly, RefusedAs2Exactly, OnlyTheseRefusals, StrengthInRange, OwnStrengthPlaysNoPart}
 use Rattle.selection.proofs.Places.{each_at, all_at}
 
 -- What is given where a refusal comes before the choice, or none does.
@@ -103,6 +103,19 @@ refused_as_2_exactly wall blocks = (
     from false true found (inl zero·) is = absurd (let no· : ⊥ = omega (arith, zero·, ap (λ (c : Choice). c.refusal) is) in no·)
     from false true found (inr other) is = absurd (let no· : ⊥ = omega (arith, other, ap (λ (c : Choice). c.refusal) is) in no·)
     from false false found which is = (refl, refl)
+
+pub only_these_refusals : OnlyTheseRefusals
+unfolding first_or found
+only_these_refusals wall blocks =
+    cond_cases OneOfThese (bad_list blocks) (λ _. inr (inr (inl refl)))
+    (λ _. cond_cases OneOfThese (not (in_range wall)) (λ _. inr (inl refl)) (λ _. go (found_refusal wall blocks)))
+  where
+    OneOfThese : Choice → Type 0
+    OneOfThese c = (c.refusal ≡ 0) ⊎ (c.refusal ≡ 2) ⊎ (c.refusal ≡ 26) ⊎ (c.refusal ≡ 27)
+
+    go : ((found wall blocks).refusal ≡ 0) ⊎ ((found wall blocks).refusal ≡ 27) → OneOfThese (found wall blocks)
+    go (inl zero·) = inl zero·
+    go (inr none) = inr (inr (inr none))
 
 -- ---- F of a block in the record's place
 

@@ -1,5 +1,5 @@
 -- What is claimed of the choice, for every record and list. Document 02, #110.
-use Rattle.std.specs.Prelude.{ℕ, suc, ◌≤◌, ◌<◌, true, false, List, ◌∷◌, ◌↔◌, ◌≡◌, length}
+use Rattle.std.specs.Prelude.{ℕ, suc, ◌≤◌, ◌<◌, true, false, List, ◌∷◌, ◌⊎◌, ◌↔◌, ◌≡◌, length}
 use Rattle.basis.specs.Range.{AllWithin}
 use Rattle.basis.specs.Refusal.{NoneApplies}
 use Rattle.basis.specs.Result.{Accepted}
@@ -82,6 +82,12 @@ RefusedAs26Exactly = (wall : Wall) (blocks : List Block) → (choice wall blocks
 abbrev pub RefusedAs2Exactly : Type 0
 RefusedAs2Exactly =
     (wall : Wall) (blocks : List Block) → (choice wall blocks ≡ refused 2) ↔ ((bad_list blocks ≡ false) × (in_range wall ≡ false))
+
+-- No other refusal arises than these: 3 to 25 are never given, and 1 is about a line.
+abbrev pub OnlyTheseRefusals : Type 0
+OnlyTheseRefusals =
+    (wall : Wall) (blocks : List Block) →
+    let refusal = (choice wall blocks).refusal in (refusal ≡ 0) ⊎ (refusal ≡ 2) ⊎ (refusal ≡ 26) ⊎ (refusal ≡ 27)
 
 -- With the F of a listed block a record in range stays in range.
 abbrev pub StrengthInRange : Type 0

@@ -13,7 +13,7 @@ use storey::StoreyWall;
 use walls::Wall;
 
 // How many blocks a list has at most.
-const MOST_BLOCKS: usize = 64;
+pub const MOST_BLOCKS: usize = 64;
 
 // A block of a merchant's list: `wallcheck_block` in the header.
 #[repr(C)]

@@ -31,7 +31,7 @@ cells_result cells = check (Storey (cells_wall cells))
 
 -- Which rules a result is computed by: 100 for document 01, then the number of the last request that has landed.
 abbrev pub edition : ℕ
-edition = 109
+edition = 110
 
 -- What is handed back and what a lent buffer holds then.
 pub record Lent : Type 0 where

@@ -1,6 +1,7 @@
--- The public entries: what each answers, and demands 1 to 3, #104, #106 and #109 restated for them.
+-- The public entries: what each answers, and demands 1 to 3, #104, #106, #109 and #110 restated for them.
 pub mod Entry
 pub mod Demands
 pub mod StoreyRecord
 pub mod MinimumLoad
 pub mod EarlyDesign
+pub mod BlockChoice

@@ -1,7 +1,8 @@
 // The public entries: a line or a worksheet row, each also into a lent buffer; a line also with the count of bytes taken. Those of checks that take
-// `S` records alone stand in `storey_checks`. The C interface, c_interface, hands them on.
+// `S` records alone stand in `storey_checks`, that of the choice of a block in `block_choice`. The C interface, c_interface, hands them on.
 #![tactic(auto)]
 
+pub mod block_choice;
 pub mod storey_checks;
 
 ghost use Rattle.std.specs.Prelude.{◌≡◌};
