@@ -4,14 +4,17 @@ tell; the status is 1 where something is told. Without a name the program is sch
     python3 oracle/generate.py lines 25000 | python3 oracle/expected.py
     python3 oracle/expected.py pack <examples/terraced-house.txt >walls.archive
     python3 oracle/expected.py unpack <walls.archive
+    python3 oracle/expected.py choose <examples/blocks.txt
 """
 
 import sys
 
 from archive import pack, unpack
+from selection import choose
 from walls import schedule
 
-PROGRAMS = {'schedule': lambda stream: (schedule(stream), ''), 'pack': pack, 'unpack': unpack}
+PROGRAMS = {'schedule': lambda stream: (schedule(stream), ''), 'pack': pack, 'unpack': unpack,
+            'choose': lambda stream: (choose(stream), '')}
 
 
 def main():

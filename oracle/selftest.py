@@ -1,5 +1,5 @@
-"""Compares walls.py and archive.py with the figures of documents 01 and 02 and the worked examples, and the callers' cases
-with both.
+"""Compares walls.py, selection.py and archive.py with the figures of documents 01 and 02 and the worked examples, and the
+callers' cases with all three.
 
     python3 oracle/selftest.py
 """
@@ -12,6 +12,7 @@ from archive_inputs import GOOD_BLOCKS, HALF_FILLED, with_byte
 from cases import (read_archive_blocks, read_archive_texts, read_lines, read_minimum_load_lines, read_minimum_load_rows,
                    read_range_lines, read_range_rows, read_rows)
 from generate import Numbers, small_ranges
+from selection import Block, accepted_with, choice, choose
 from walls import (A, K, StoreyWall, answer_by_worst_and_best, beginning_pattern, buckling_length, cellar_load, check,
                    check_line, check_minimum_load, check_minimum_load_line, check_minimum_load_row, check_range,
                    check_range_lines, check_range_rows, check_row, greatest_height, lent, line_of, line_pattern,
@@ -157,6 +158,54 @@ RANGE_REFUSALS = [
     (line_of(S(G=60001)), b'S 175', 1), (line_of(S(G=0)), line_of(A), 2), (line_of(A), line_of(S(H=200001)), 2),
     (line_of(S(t=114)), line_of(A), 2), (line_of(S(t=114, a=114)), line_of(A), 25),
     (line_of(S(G=200000)), line_of(A), 25),
+]
+
+# Document 02, #110: a record, blocks as F and price, and refusal, place and count. A has N 210000; the resistance is 209340
+# for F=297 and 210045 for F=298. K has N 69000 and the resistance 124100 for F=180, which is the least F of all.
+CHOICES = [
+    (A, [(298, 10)], (0, 1, 1)), (A, [(297, 10)], (27, 0, 1)), (A, [(5000, 1000000)], (0, 1, 1)), (A, [(1, 1)], (27, 0, 1)),
+    (A, [(500, 10), (400, 10)], (0, 1, 1)), (A, [(400, 10), (500, 10)], (0, 1, 1)), (A, [(298, 10)] * 64, (0, 1, 1)),
+    (A, [(297, 10), (298, 10)], (0, 2, 2)), (A, [(298, 10), (297, 10)], (0, 1, 1)), (A, [(297, 1), (298, 2)], (0, 2, 2)),
+    (A, [(500, 30), (400, 20), (298, 10)], (0, 3, 3)), (A, [(298, 10), (400, 20), (500, 30)], (0, 1, 1)),
+    (A, [(500, 30), (297, 20), (400, 25), (400, 20)], (0, 4, 4)),
+    # checked are 1, which is accepted, 3, 4, which is not accepted, and 6
+    (A, [(500, 20), (400, 30), (300, 10), (297, 5), (298, 10), (500, 9)], (0, 6, 4)),
+    # checked are 1, 2, 3, 5 and 6, of which 2, 5 and 6 are accepted
+    (A, [(297, 1), (298, 10), (297, 9), (500, 10), (298, 9), (5000, 8)], (0, 6, 5)),
+    (A, [(179, 1), (180, 2), (297, 3)], (27, 0, 3)), (A, [(297, 5)] * 64, (27, 0, 64)),
+    (A, [(297, 1)] * 63 + [(298, 1000000)], (0, 64, 64)), (A, [(298, 2)] + [(297, 1)] * 63, (0, 1, 64)),
+    (A, [(298, 65 - place) for place in range(1, 65)], (0, 64, 64)),
+    (S(F=1), [(298, 10)], (0, 1, 1)), (S(F=179), [(297, 5), (500, 10)], (0, 2, 2)), (S(F=297), [(500, 1)], (0, 1, 1)),
+    (K, [(180, 7)], (0, 1, 1)), (K, [(179, 7)], (27, 0, 1)), (K, [(179, 7), (180, 8), (5000, 7)], (0, 3, 3)),
+    # N is 124100 for Q=46733 and 124101 for Q=46734
+    (C(Q=46733), [(180, 1)], (0, 1, 1)), (C(Q=46734), [(180, 1), (181, 2)], (0, 2, 2)),
+    # refused whatever F is: as 3 and as 19
+    (S(t=114, a=114), [(5000, 1), (500, 2)], (27, 0, 2)), (C(G=27397), [(500, 2), (5000, 1)], (27, 0, 2)),
+    # the height of #102 for F >= 350
+    (S(h=3600, mark=1, G=30000, Q=30000), [(349, 1), (350, 2)], (0, 2, 2)),
+    # ends of the ranges and what is beyond them
+    (A, [], (26, 0, 0)), (A, [(298, 10)] * 65, (26, 0, 0)), (A, [(298, 0)], (26, 0, 0)), (A, [(298, 1000001)], (26, 0, 0)),
+    (A, [(298, 1), (0, 1)], (26, 0, 0)), (A, [(5001, 1), (298, 1)], (26, 0, 0)), (A, [(2**64 - 1, 1)], (26, 0, 0)),
+    (S(F=0), [(298, 10)], (2, 0, 0)), (S(F=5001), [(298, 10)], (2, 0, 0)), (C(t=1001), [(500, 1)], (2, 0, 0)),
+    (S(F=0), [(0, 10)], (26, 0, 0)), (S(a=176), [], (26, 0, 0)),
+]
+# .. and a line that is no record's
+NO_RECORDS = [
+    (b'', [(298, 10)], (1, 0, 0)), (b'S 175', [(298, 10)] * 64, (1, 0, 0)), (line_of(A) + b' ', [(298, 10)], (1, 0, 0)),
+    (b'S 175', [], (26, 0, 0)), (b'S 175', [(298, 10)] * 65, (26, 0, 0)), (b'', [(298, 0)], (26, 0, 0)),
+]
+# .. and what `choose` prints for a text: a record's line, its list and that end
+CHOSEN = [
+    (b'', b'26 0 0\n'), (b'\n', b'26 0 0\n'), (line_of(A), b'26 0 0\n'), (line_of(A) + b'\n', b'26 0 0\n'),
+    (line_of(A) + b'\n\n', b'26 0 0\n'), (line_of(A) + b'\n298 10', b'0 1 1\n'), (line_of(K) + b'\n179 7\n', b'27 0 1\n'),
+    (line_of(A) + b'\n297 10\n500 30\n298 20\n', b'0 3 3\n'), (line_of(A) + b'\n298 10\n\n', b'26 0 0\n'),
+    (line_of(A) + b'\n298 10\r\n', b'26 0 0\n'), (line_of(A) + b'\r\n298 10\n', b'1 0 0\n'), (b'\n298 10', b'1 0 0\n'),
+    (b'\n298 010', b'26 0 0\n'), (line_of(A) + b'\n298  10', b'26 0 0\n'), (line_of(A) + b'\n 298 10', b'26 0 0\n'),
+    (line_of(A) + b'\n298 10 ', b'26 0 0\n'), (line_of(A) + b'\n298\t10', b'26 0 0\n'), (line_of(A) + b'\n298', b'26 0 0\n'),
+    (line_of(A) + b'\n298 10 1', b'26 0 0\n'), (line_of(A) + b'\n+298 10', b'26 0 0\n'),
+    (line_of(A) + b'\n298 1000000000', b'26 0 0\n'), (line_of(A) + b'\n298 10' * 64, b'0 1 1\n'),
+    (line_of(A) + b'\n298 10' * 65, b'26 0 0\n'), (b'1' * 1000000 + b'\n298 10\n', b'1 0 0\n'),
+    (b'1' * 1000000 + b'\n298 0\n', b'26 0 0\n'), (line_of(S(a=176)) + b'\n298 10\n', b'2 0 0\n'),
 ]
 
 # Document 02, #103 and #108: G, Q, N for q up to 3000, and N above 3000 and for a cellar wall.
@@ -356,6 +405,41 @@ def worst_and_best_of_ranges():
             agree(f'worst and best of the range from {line_of(low)} to {line_of(high)}', answer_by_worst_and_best(low, high), answer)
 
 
+def choices():
+    for wall, F, is_accepted in [(A, 297, False), (A, 298, True), (K, 179, False), (K, 180, True)]:
+        agree(f'{line_of(wall)} with F={F}', accepted_with(wall, F), is_accepted)
+    for wall, blocks, result in CHOICES:
+        agree(f'choice of {line_of(wall)} among {blocks}', choice(line_of(wall), list(map(Block._make, blocks))), result)
+    for line, blocks, result in NO_RECORDS:
+        agree(f'choice of {line} among {blocks}', choice(line, list(map(Block._make, blocks))), result)
+    for stream, printed in CHOSEN:
+        agree(f'choose of {stream[:100]}', choose(stream), printed)
+
+
+def choice_in_one_pass(wall, blocks):
+    """The place and the count for a good list by one pass over it, in which the best block so far is kept: a block is checked
+    where its price is below that one's, and is the best so far where it is then accepted."""
+    place = count = 0
+    lowest = inf
+    for at, block in enumerate(blocks, 1):
+        if block.price < lowest:
+            count += 1
+            if accepted_with(wall, block.F):
+                place, lowest = at, block.price
+    return place, count
+
+
+def choices_of_small_lists():
+    """Every list of up to four blocks of two strengths, one of them accepted, and three prices."""
+    for wall, refused_strength, accepted_strength in ((A, 297, 298), (K, 179, 180)):
+        blocks = list(map(Block._make, product((refused_strength, accepted_strength), (1, 2, 3))))
+        for length in range(1, 5):
+            for chosen in product(blocks, repeat=length):
+                refusal, *answer = choice(line_of(wall), chosen)
+                place, count = choice_in_one_pass(wall, chosen)
+                agree(f'choice of {line_of(wall)} among {chosen}', (refusal, *answer), (0 if place else 27, place, count))
+
+
 def archives():
     for stored, blocks in ARCHIVES:
         size = 512 * len(blocks)
@@ -447,6 +531,8 @@ if __name__ == '__main__':
     minimum_loads()
     ranges()
     worst_and_best_of_ranges()
+    choices()
+    choices_of_small_lists()
     archives()
     archive_programs()
     bytes_taken()

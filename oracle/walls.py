@@ -472,12 +472,15 @@ def lent(result, buffer):
     return result, line + buffer[len(line):]
 
 
+def lines_of(stream):
+    """The lines of a program's standard input: "nonempty input behind the last byte 10 counts as a line"."""
+    *lines, behind = stream.split(b'\n')
+    return [*lines, behind] if behind else lines
+
+
 def schedule(stream):
     """What the schedule program prints for its standard input."""
-    *lines, behind = stream.split(b'\n')
-    if behind:
-        lines.append(behind)
-    return b''.join(text(refused(1) if len(line) > 200 else check_line(line)) for line in lines)
+    return b''.join(text(refused(1) if len(line) > 200 else check_line(line)) for line in lines_of(stream))
 
 
 # ---- Worksheet row
