@@ -1,5 +1,5 @@
-"""The acceptance cases, which all callers read: callers/cases.txt and callers/rows.txt, those of the minimum load, of ranges
-and of the archive."""
+"""The acceptance cases, which all callers read: callers/cases.txt and callers/rows.txt, those of the minimum load, of ranges,
+of choosing the block and of the archive."""
 
 from pathlib import Path
 
@@ -73,6 +73,17 @@ def read_range_rows():
     """The 19 cells of the low and of the high row, with refusal and answer."""
     for (low, high), (result,) in read('range_rows.txt', before=2).items():
         yield cells_of(low), cells_of(high), result
+
+
+def blocks_of(column):
+    """F and price of each block; none for an empty column."""
+    return list(map(numbers_of, column.split(b', '))) if column else []
+
+
+def read_choices():
+    """Each record's line with its blocks, and refusal, place and count."""
+    for (line, blocks), (result,) in read('choices.txt', before=2).items():
+        yield line, blocks_of(blocks), result
 
 
 def bytes_of(column):

@@ -9,8 +9,8 @@ from math import inf, nan, nextafter
 
 import archive
 from archive_inputs import GOOD_BLOCKS, HALF_FILLED, with_byte
-from cases import (read_archive_blocks, read_archive_texts, read_lines, read_minimum_load_lines, read_minimum_load_rows,
-                   read_range_lines, read_range_rows, read_rows)
+from cases import (read_archive_blocks, read_archive_texts, read_choices, read_lines, read_minimum_load_lines,
+                   read_minimum_load_rows, read_range_lines, read_range_rows, read_rows)
 from generate import Numbers, small_ranges
 from selection import Block, accepted_with, choice, choose
 from walls import (A, K, StoreyWall, answer_by_worst_and_best, beginning_pattern, buckling_length, cellar_load, check,
@@ -515,6 +515,8 @@ def callers():
         agree(f'range from {low} to {high}', check_range_lines(low, high), result)
     for low, high, result in read_range_rows():
         agree(f'range of rows from {low} to {high}', check_range_rows(low, high), result)
+    for line, blocks, result in read_choices():
+        agree(f'choice of {line} among {blocks}', choice(line, list(map(Block._make, blocks))), result)
     for wall in records():
         agree(f'{line_of(wall)} stands in callers/cases.txt', line_of(wall) in lines, True)
     for stored, result, blocks in read_archive_texts():
