@@ -8,14 +8,14 @@
 PREFIX ?= /usr/local
 # The first number, which is also the shared library's, is raised where a struct or a function's arguments change, the
 # second where a result changes or a function is added.
-VERSION = 4.7.0
+VERSION = 4.8.0
 SONAME = libwallcheck.so.$(firstword $(subst ., ,$(VERSION)))
 SHARED = libwallcheck.so.$(VERSION)
 # What is installed, each with a script of its name.
-PROGRAMS = schedule pack unpack
+PROGRAMS = schedule pack unpack choose
 FUNCTIONS = wallcheck_edition wallcheck_line wallcheck_line_taken wallcheck_line_into wallcheck_row wallcheck_row_into \
 	wallcheck_minimum_load_line wallcheck_minimum_load_line_into wallcheck_minimum_load_row wallcheck_minimum_load_row_into \
-	wallcheck_range_lines wallcheck_range_rows \
+	wallcheck_range_lines wallcheck_range_rows wallcheck_choose \
 	wallcheck_archive_count wallcheck_archive_write wallcheck_archive_read
 BUILD = build
 ifeq ($(origin CC),default)
@@ -44,7 +44,7 @@ dist/libwallcheck.so: $(SOURCES) crates.txt include/wallcheck.h Makefile
 callers: lib
 	@$(CC) -std=c11 -O2 -Wall -Wextra -Werror -Iinclude callers/c/acceptance.c dist/libwallcheck.a -o $(BUILD)/acceptance
 	@$(BUILD)/acceptance $(addprefix callers/,cases.txt rows.txt minimum_load_lines.txt minimum_load_rows.txt \
-		range_lines.txt range_rows.txt archive_texts.txt archive_blocks.txt)
+		range_lines.txt range_rows.txt choices.txt archive_texts.txt archive_blocks.txt)
 	@$(CARGO_ENV) cargo run --quiet --release --offline --manifest-path callers/rust/Cargo.toml --bin acceptance
 	@python3 callers/python/compare.py dist/libwallcheck.so
 	@test "$$(nm -D --defined-only dist/libwallcheck.so | awk '{print $$3}' | sort | tr '\n' ' ')" = "$(sort $(FUNCTIONS)) "

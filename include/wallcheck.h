@@ -31,7 +31,7 @@ extern "C" {
  * 20 output buffer under 64 bytes;
  * the functions of the minimum load alone: 21 dead load below the minimum load.
  * Refusals other than 13, 18, 19 and 21 leave the other four numbers 0.
- * 23 and 24 come with wallcheck_archived alone, 25 with wallcheck_range alone. */
+ * 23 and 24 come with wallcheck_archived alone, 25 with wallcheck_range alone, 26 and 27 with wallcheck_choice alone. */
 typedef struct {
     uint64_t refusal;        /* 0 accepted, else the first refusal that applies */
     uint64_t length_or_need; /* storey wall: buckling length in tenths of a mm; cellar wall: required dead load;
@@ -84,6 +84,21 @@ typedef struct {
                        * another number that differs */
     uint64_t answer;  /* 1 every record between is accepted; 2 none is; 3 some are and others are not */
 } wallcheck_range;
+
+/* A building block that a merchant offers; the blocks of the archive are others. */
+typedef struct {
+    uint64_t strength; /* (F) of the masonry with this block, in hundredths of N/mm2, 1..5000 */
+    uint64_t price;    /* 1..1000000, in any unit, the same for all blocks of a list */
+} wallcheck_block;
+
+/* What wallcheck_choose returns: refusal 0, a place and a count; refusal 27, place 0 and a count; or refusal 26, 1 or 2, place 0
+ * and count 0. */
+typedef struct {
+    uint64_t refusal; /* 0; 26 a list that is empty, too long or has a number out of range; 1 not a line of this form; 2 a
+                       * number of the line out of range; 27 no block is accepted */
+    uint64_t place;   /* of the chosen block in the list; places count from 1 */
+    uint64_t checked; /* how many blocks were checked; with refusal 27 all of the list */
+} wallcheck_choice;
 
 /* What the functions of the archive return: refusal 0 and a count; or refusal 23 or 24 and count 0. */
 typedef struct {
@@ -149,6 +164,17 @@ wallcheck_range wallcheck_range_lines(const uint8_t *low, size_t low_len, const 
 
 /* The same for two worksheet rows. */
 wallcheck_range wallcheck_range_rows(wallcheck_cells low, wallcheck_cells high);
+
+/* Choosing the block: which of a list of 1 to 64 blocks is the cheapest with which a wall is accepted. `line` is that of a storey
+ * or a cellar wall. A block is accepted where wallcheck_line accepts the line with the block's strength in place of its own F.
+ * Of the accepted blocks the cheapest is chosen, the earlier of equals: no other block of the list that is accepted costs
+ * less. Checked are the blocks whose price is below that of every accepted block before them.
+ *
+ * Refusal 26 comes first: the list is empty, has more than 64 blocks or a strength or a price out of range. Then, as
+ * wallcheck_line has them, refusals 1 and 2; for these the line's own F counts like its other numbers. Then 27, exactly when no
+ * block is accepted, with the list's length as its count. A strength from 1 to 179 is in range, and such a block is not
+ * accepted. Nothing is written. */
+wallcheck_choice wallcheck_choose(const uint8_t *line, size_t len, const wallcheck_block *blocks, size_t count);
 
 /* Archived schedules: lines, each ended by byte 10, in blocks of 512 bytes, so that one bad block costs its own lines
  * alone. Bytes 0 and 1 of a block hold the number of bytes used, at most 508, low byte first; bytes 2 and 3 the sum of

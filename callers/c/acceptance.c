@@ -1,11 +1,12 @@
 /* Runs the acceptance cases against the library: each line, each storey record as a worksheet row too, and each row,
  * alone and into lent buffers of several lengths; of each line also the count of bytes taken. The same of the minimum
- * load in the top storey. Each pair of lines and of rows of a range. Each text is archived into buffers of several lengths
- * and read back, and each block is read.
+ * load in the top storey. Each pair of lines and of rows of a range. Each record with a list of blocks to choose from. Each
+ * text is archived into buffers of several lengths and read back, and each block is read.
  *
  *     gcc -std=c11 -Wall -Wextra -I include callers/c/acceptance.c libwallcheck.a -o acceptance
  *     ./acceptance callers/cases.txt callers/rows.txt callers/minimum_load_lines.txt callers/minimum_load_rows.txt \
- *         callers/range_lines.txt callers/range_rows.txt callers/archive_texts.txt callers/archive_blocks.txt
+ *         callers/range_lines.txt callers/range_rows.txt callers/choices.txt callers/archive_texts.txt \
+ *         callers/archive_blocks.txt
  */
 #include <stdio.h>
 #include <stdlib.h>
@@ -13,13 +14,18 @@
 
 #include "wallcheck.h"
 
-enum { EDITION = 109, CELLS = 19 };
+enum { EDITION = 110, CELLS = 19 };
 
 _Static_assert(sizeof(wallcheck_result) == 40, "five numbers of eight bytes");
 _Static_assert(sizeof(wallcheck_reading) == 48, "a result and the count");
 _Static_assert(offsetof(wallcheck_reading, taken) == 40, "the count is the last");
 _Static_assert(sizeof(wallcheck_range) == 16, "two numbers of eight bytes");
 _Static_assert(offsetof(wallcheck_range, answer) == 8, "the answer is the second");
+_Static_assert(sizeof(wallcheck_block) == 16, "two numbers of eight bytes");
+_Static_assert(offsetof(wallcheck_block, price) == 8, "the price is the second");
+_Static_assert(sizeof(wallcheck_choice) == 24, "three numbers of eight bytes");
+_Static_assert(offsetof(wallcheck_choice, place) == 8, "the place is the second");
+_Static_assert(offsetof(wallcheck_choice, checked) == 16, "the count is the last");
 _Static_assert(sizeof(wallcheck_archived) == 16, "two numbers of eight bytes");
 _Static_assert(offsetof(wallcheck_archived, count) == 8, "the count is the second");
 _Static_assert(sizeof(wallcheck_cells) == CELLS * sizeof(double), "nineteen cells");
@@ -266,6 +272,69 @@ static void run_range_null(void)
     report("range of lines", "high null", same_range(wallcheck_range_lines(line, len, NULL, 0), no_line));
 }
 
+/* The blocks that a case names. Behind them stands one that would be chosen if the function looked there. */
+enum { MOST_BLOCKS = 200 };
+struct blocks {
+    wallcheck_block at[MOST_BLOCKS + 1];
+    size_t count;
+};
+
+/* Each block as F and price, with a comma and a space between, up to the next tab. */
+static struct blocks blocks_of(const char *column)
+{
+    struct blocks blocks = {.count = 0};
+    const char *rest = column;
+    while (*rest != '\t') {
+        unsigned long long strength, price;
+        int taken;
+        if (blocks.count == MOST_BLOCKS || sscanf(rest, "%llu %llu%n", &strength, &price, &taken) != 2) {
+            fprintf(stderr, "c: not blocks: %s\n", column);
+            exit(1);
+        }
+        blocks.at[blocks.count++] = (wallcheck_block){strength, price};
+        rest += taken;
+        rest += strspn(rest, ", ");
+    }
+    blocks.at[blocks.count] = (wallcheck_block){5000, 1};
+    return blocks;
+}
+
+static wallcheck_choice choice_of(const char *numbers)
+{
+    unsigned long long refusal, place, checked;
+    if (sscanf(numbers, "%llu %llu %llu", &refusal, &place, &checked) != 3) {
+        fprintf(stderr, "c: not a choice: %s\n", numbers);
+        exit(1);
+    }
+    return (wallcheck_choice){refusal, place, checked};
+}
+
+static int same_choice(wallcheck_choice x, wallcheck_choice y)
+{
+    return x.refusal == y.refusal && x.place == y.place && x.checked == y.checked;
+}
+
+/* Runs a record's line with a list of blocks, which stays as it is. */
+static void run_choice_case(const char *line, const char *columns)
+{
+    struct blocks blocks = blocks_of(columns), before = blocks;
+    wallcheck_choice got = wallcheck_choose((const uint8_t *)line, strlen(line), blocks.at, blocks.count);
+    report("choice", line, same_choice(got, choice_of(behind_tab(line, columns))));
+    report("list afterwards", line, memcmp(blocks.at, before.at, (blocks.count + 1) * sizeof blocks.at[0]) == 0);
+}
+
+/* A null pointer with length 0, as line and as list. */
+static void run_choice_null(void)
+{
+    const char *numbers = "C 365 2500 2000 6000 20000 500 0 40000 10000 5000";
+    const uint8_t *line = (const uint8_t *)numbers;
+    const wallcheck_block block = {500, 10};
+    const wallcheck_choice no_line = {.refusal = 1}, no_list = {.refusal = 26};
+    report("choice", "both null", same_choice(wallcheck_choose(NULL, 0, NULL, 0), no_list));
+    report("choice", "list null", same_choice(wallcheck_choose(line, strlen(numbers), NULL, 0), no_list));
+    report("choice", "line null", same_choice(wallcheck_choose(NULL, 0, &block, 1), no_line));
+}
+
 /* The bytes that a case names. */
 enum { MOST_BYTES = 8192 };
 struct bytes {
@@ -427,9 +496,9 @@ static void run_file(const char *path, void (*run)(const char *, const char *))
 
 int main(int argc, char **argv)
 {
-    if (argc != 9) {
+    if (argc != 10) {
         fprintf(stderr, "usage: acceptance cases.txt rows.txt minimum_load_lines.txt minimum_load_rows.txt "
-                        "range_lines.txt range_rows.txt archive_texts.txt archive_blocks.txt\n");
+                        "range_lines.txt range_rows.txt choices.txt archive_texts.txt archive_blocks.txt\n");
         return 1;
     }
     run_file(argv[1], run_line_case);
@@ -438,10 +507,12 @@ int main(int argc, char **argv)
     run_file(argv[4], run_minimum_load_row_case);
     run_file(argv[5], run_range_lines_case);
     run_file(argv[6], run_range_rows_case);
-    run_file(argv[7], run_archive_text_case);
-    run_file(argv[8], run_archive_block_case);
+    run_file(argv[7], run_choice_case);
+    run_file(argv[8], run_archive_text_case);
+    run_file(argv[9], run_archive_block_case);
     run_null();
     run_range_null();
+    run_choice_null();
     run_archive_null();
     report("edition", "", wallcheck_edition() == EDITION);
     if (different > 0) {

@@ -27,6 +27,23 @@ pub struct RangeResult {
     pub answer: u64,
 }
 
+/// A building block that a merchant offers: the strength F of the masonry with it, and its price.
+#[repr(C)]
+#[derive(Clone, Copy, Debug, Default, PartialEq, Eq)]
+pub struct Block {
+    pub strength: u64,
+    pub price: u64,
+}
+
+/// What choosing the block returns: 0, a place and a count; refusal 27, 0 and a count; or refusal 26, 1 or 2, 0 and 0.
+#[repr(C)]
+#[derive(Clone, Copy, Debug, Default, PartialEq, Eq)]
+pub struct Choice {
+    pub refusal: u64,
+    pub place: u64,
+    pub checked: u64,
+}
+
 /// What the functions of the archive return: 0 and a count; or refusal 23 or 24 and 0.
 #[repr(C)]
 #[derive(Clone, Copy, Debug, Default, PartialEq, Eq)]
@@ -91,7 +108,7 @@ impl From<[f64; 19]> for Cells {
 
 /// The C functions themselves.
 pub mod raw {
-    use super::{Archived, Cells, CheckResult, RangeResult, Reading};
+    use super::{Archived, Block, Cells, CheckResult, Choice, RangeResult, Reading};
 
     extern "C" {
         pub fn wallcheck_edition() -> u64;
@@ -127,6 +144,12 @@ pub mod raw {
             high_len: usize,
         ) -> RangeResult;
         pub fn wallcheck_range_rows(low: Cells, high: Cells) -> RangeResult;
+        pub fn wallcheck_choose(
+            line: *const u8,
+            len: usize,
+            blocks: *const Block,
+            count: usize,
+        ) -> Choice;
         pub fn wallcheck_archive_count(text: *const u8, len: usize) -> Archived;
         pub fn wallcheck_archive_write(
             text: *const u8,
@@ -199,6 +222,11 @@ pub fn range_lines(low: &[u8], high: &[u8]) -> RangeResult {
 /// The same of two rows.
 pub fn range_rows(low: Cells, high: Cells) -> RangeResult {
     unsafe { raw::wallcheck_range_rows(low, high) }
+}
+
+/// The cheapest block with which the record of a line is accepted.
+pub fn choose(line: &[u8], blocks: &[Block]) -> Choice {
+    unsafe { raw::wallcheck_choose(line.as_ptr(), line.len(), blocks.as_ptr(), blocks.len()) }
 }
 
 /// How many blocks the lines of a text take.

@@ -1,22 +1,24 @@
 //! Runs the acceptance cases against the library: each line, each storey record as a worksheet row too, and each row,
 //! alone and into lent buffers of several lengths; of each line also the count of bytes taken. The same of the minimum
-//! load in the top storey. Each pair of lines and of rows of a range. Each text is archived into buffers of several lengths
-//! and read back, and each block is read.
+//! load in the top storey. Each pair of lines and of rows of a range. Each record with a list of blocks to choose from. Each
+//! text is archived into buffers of several lengths and read back, and each block is read.
 //!
 //!     WALLCHECK_LIB_DIR=.. cargo run --release --bin acceptance
 
 use std::mem::{offset_of, size_of};
 use std::process::exit;
-use std::ptr::{null, null_mut};
+use std::ptr::{from_ref, null, null_mut};
 use wallcheck::{
     archive_count, archive_read, archive_write, check_line, check_line_into, check_line_taken,
-    check_row, check_row_into, edition, minimum_load_line, minimum_load_line_into,
-    minimum_load_row, minimum_load_row_into, range_lines, range_rows, raw, Archived, Cells,
-    CheckResult, RangeResult, Reading, BLOCK_LEN,
+    check_row, check_row_into, choose, edition, minimum_load_line, minimum_load_line_into,
+    minimum_load_row, minimum_load_row_into, range_lines, range_rows, raw, Archived, Block, Cells,
+    CheckResult, Choice, RangeResult, Reading, BLOCK_LEN,
 };
 
 // As include/wallcheck.h has it.
 const _: () = assert!(size_of::<RangeResult>() == 16 && offset_of!(RangeResult, answer) == 8);
+const _: () = assert!(size_of::<Block>() == 16 && offset_of!(Block, price) == 8);
+const _: () = assert!(size_of::<Choice>() == 24 && offset_of!(Choice, checked) == 16);
 
 const LINES: &str = include_str!("../../../cases.txt");
 const ROWS: &str = include_str!("../../../rows.txt");
@@ -24,9 +26,10 @@ const MINIMUM_LOAD_LINES: &str = include_str!("../../../minimum_load_lines.txt")
 const MINIMUM_LOAD_ROWS: &str = include_str!("../../../minimum_load_rows.txt");
 const RANGE_LINES: &str = include_str!("../../../range_lines.txt");
 const RANGE_ROWS: &str = include_str!("../../../range_rows.txt");
+const CHOICES: &str = include_str!("../../../choices.txt");
 const ARCHIVE_TEXTS: &str = include_str!("../../../archive_texts.txt");
 const ARCHIVE_BLOCKS: &str = include_str!("../../../archive_blocks.txt");
-const EDITION: u64 = 109;
+const EDITION: u64 = 110;
 const OUT_LENGTHS: [usize; 4] = [0, 63, 64, 100];
 const FILL: u8 = 0xA5;
 
@@ -261,6 +264,68 @@ fn run_range_null(tally: &mut Tally) {
     }
 }
 
+/// A block as F and price.
+fn block_of(numbers: &str) -> Block {
+    let (strength, price) = numbers.split_once(' ').expect("F and price");
+    Block {
+        strength: strength.parse().expect("an F"),
+        price: price.parse().expect("a price"),
+    }
+}
+
+fn choice_of(numbers: &str) -> Choice {
+    let numbers: Vec<u64> = numbers
+        .split(' ')
+        .map(|n| n.parse().expect("a number"))
+        .collect();
+    let &[refusal, place, checked] = &numbers[..] else {
+        panic!("three numbers");
+    };
+    Choice {
+        refusal,
+        place,
+        checked,
+    }
+}
+
+/// Runs each record's line with its blocks. Behind them stands one that would be chosen if the function looked there.
+fn run_choices(tally: &mut Tally) {
+    for (line, columns) in cases(CHOICES) {
+        let (list, numbers) = columns.split_once('\t').expect("two columns");
+        let words = list.split(", ").filter(|block| !block.is_empty());
+        let mut blocks: Vec<Block> = words.map(block_of).collect();
+        blocks.push(Block {
+            strength: 5000,
+            price: 1,
+        });
+        let choice = choose(line.as_bytes(), &blocks[..blocks.len() - 1]);
+        tally.count("choice", line, choice == choice_of(numbers));
+    }
+}
+
+/// A null pointer with length 0, as line and as list, which the header allows.
+fn run_choice_null(tally: &mut Tally) {
+    let line = b"C 365 2500 2000 6000 20000 500 0 40000 10000 5000";
+    let block = Block {
+        strength: 500,
+        price: 10,
+    };
+    let given = (line.as_ptr(), line.len());
+    let none = (null(), 0);
+    let refused = |refusal| Choice {
+        refusal,
+        ..Choice::default()
+    };
+    for (what, line, list, expected) in [
+        ("both null", none, (null(), 0), refused(26)),
+        ("list null", given, (null(), 0), refused(26)),
+        ("line null", none, (from_ref(&block), 1), refused(1)),
+    ] {
+        let choice = unsafe { raw::wallcheck_choose(line.0, line.1, list.0, list.1) };
+        tally.count("choice", what, choice == expected);
+    }
+}
+
 /// The bytes of a column: pieces with a space between, hexadecimal digits, and where `*` and a number stand behind them, so
 /// many times.
 fn bytes_of(column: &str) -> Vec<u8> {
@@ -410,9 +475,11 @@ fn main() {
     }
     run_minimum_load(&mut tally);
     run_ranges(&mut tally);
+    run_choices(&mut tally);
     run_archive(&mut tally);
     run_null(&mut tally);
     run_range_null(&mut tally);
+    run_choice_null(&mut tally);
     run_archive_null(&mut tally);
     tally.count("edition", "", edition() == EDITION);
     if tally.different > 0 {
