@@ -13,6 +13,8 @@ SONAME = libwallcheck.so.$(firstword $(subst ., ,$(VERSION)))
 SHARED = libwallcheck.so.$(VERSION)
 # What is installed, each with a script of its name.
 PROGRAMS = schedule pack unpack choose
+# What is timed as a whole program: choose answers once, in the time that it takes to start a process.
+TIMED = schedule pack unpack
 FUNCTIONS = wallcheck_edition wallcheck_line wallcheck_line_taken wallcheck_line_into wallcheck_row wallcheck_row_into \
 	wallcheck_minimum_load_line wallcheck_minimum_load_line_into wallcheck_minimum_load_row wallcheck_minimum_load_row_into \
 	wallcheck_range_lines wallcheck_range_rows wallcheck_choose \
@@ -56,15 +58,15 @@ plain:
 		$(BUILD)/cargo/release/$$program $$job <crates/$$job/stdin >$(BUILD)/$$program.out 2>$(BUILD)/$$program.told && \
 			cmp $(BUILD)/$$program.out crates/$$job/stdout || { cat $(BUILD)/$$program.told; exit 1; }; \
 	done; done
-	@echo "plain Rust: both print the stored expected output of all three programs"
+	@echo "plain Rust: both print the stored expected output of all four programs"
 
 bench: lib plain
-	@for program in $(PROGRAMS); do ./$$program </dev/null || exit 1; done
+	@for program in $(PROGRAMS); do ./$$program </dev/null >/dev/null || exit 1; done
 	@$(CARGO_ENV) cargo build --quiet --release --offline --features library --manifest-path bench/Cargo.toml
-	@WALLCHECK_BEFORE="$(BEFORE)" $(BUILD)/cargo/release/bench $(foreach program,$(PROGRAMS),crates/$(program)/out/$(program))
+	@WALLCHECK_BEFORE="$(BEFORE)" $(BUILD)/cargo/release/bench $(foreach program,$(TIMED),crates/$(program)/out/$(program))
 
 install: lib
-	@for program in $(PROGRAMS); do ./$$program </dev/null || exit 1; done
+	@for program in $(PROGRAMS); do ./$$program </dev/null >/dev/null || exit 1; done
 	install -d $(addprefix $(DESTDIR)$(PREFIX)/,bin include lib/pkgconfig libexec/wallcheck share/doc/wallcheck)
 	install -m 644 dist/libwallcheck.a $(DESTDIR)$(PREFIX)/lib/
 	install -m 755 dist/$(SHARED) $(DESTDIR)$(PREFIX)/lib/

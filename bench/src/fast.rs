@@ -1,6 +1,7 @@
 //! As fast as we could make it. A line byte by byte: each is looked at once, numbers of 64 bits, no allocation for a line.
 
 pub mod archive;
+pub mod choice;
 
 use crate::{
     filled, range_answer, range_refused, refused, CheckResult, RangeResult, Reading, Row,
@@ -374,6 +375,21 @@ fn cellar_limit(t: u64, h: u64, e: u64, f: u64, ground: u64) -> u64 {
     }
 }
 
+/// The required dead load, within the limits.
+#[inline(always)]
+fn cellar_need(t: u64, h: u64, e: u64, c: u64, y: u64) -> u64 {
+    // B is b/h with b = 60h - 20c, between 20h and 40h; 20 is divided out of both sides of the fraction. h is at most
+    // 2600 here and e at most 2990, so the numerator stays below 2^61.
+    let b = if c >= 2 * h { h } else { 3 * h - c.max(h) };
+    (y * h * h * e * e).div_ceil(20_000_000 * b * t)
+}
+
+#[inline(always)]
+fn cellar_resistance(t: u64, f: u64, bonded: u64) -> u64 {
+    let fifths = if bonded == 1 { 4 } else { 5 };
+    17 * fifths * f * t / 45
+}
+
 #[inline(always)]
 fn check_cellar(numbers: &[u64; CELLAR_NUMBERS]) -> CheckResult {
     if !cellar_in_range(numbers) {
@@ -384,12 +400,8 @@ fn check_cellar(numbers: &[u64; CELLAR_NUMBERS]) -> CheckResult {
     if limit != 0 {
         return refused(limit);
     }
-    // B is b/h with b = 60h - 20c, between 20h and 40h; 20 is divided out of both sides of the fraction. h is at most
-    // 2600 here and e at most 2990, so the numerator stays below 2^61.
-    let b = if c >= 2 * h { h } else { 3 * h - c.max(h) };
-    let need = (y * h * h * e * e).div_ceil(20_000_000 * b * t);
-    let fifths = if bonded == 1 { 4 } else { 5 };
-    let resistance = 17 * fifths * f * t / 45;
+    let need = cellar_need(t, h, e, c, y);
+    let resistance = cellar_resistance(t, f, bonded);
     let load = rounded_load(general_load(dead, imposed));
     let refusal = if load > resistance {
         18

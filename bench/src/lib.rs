@@ -1,7 +1,7 @@
 //! The wall check in plain Rust, without proofs, to compare speed with: `simple` as one would first
 //! write it, `fast` as fast as we could make it by hand. Each has the whole program and functions for one
-//! line and one row, also of the minimum load in the top storey, and for two lines and two rows of a range; and `archive`,
-//! with the functions and both programs of archived schedules.
+//! line and one row, also of the minimum load in the top storey, and for two lines and two rows of a range; `choice`, with the
+//! function and the program that choose a block; and `archive`, with the functions and both programs of archived schedules.
 
 pub mod fast;
 pub mod simple;
@@ -31,6 +31,24 @@ pub struct RangeResult {
     pub refusal: u64,
     pub answer: u64,
 }
+
+/// A building block of a merchant's list.
+#[derive(Clone, Copy, Debug, PartialEq, Eq)]
+pub struct Block {
+    pub strength: u64,
+    pub price: u64,
+}
+
+/// What choosing the block returns.
+#[derive(Clone, Copy, Debug, Default, PartialEq, Eq)]
+pub struct Choice {
+    pub refusal: u64,
+    pub place: u64,
+    pub checked: u64,
+}
+
+/// A list has at most this many blocks.
+const MOST_BLOCKS: usize = 64;
 
 /// A worksheet row: the 19 cells in the line's order.
 pub type Row = [f64; 19];
@@ -70,6 +88,13 @@ fn range_refused(refusal: u64) -> RangeResult {
 
 fn range_answer(answer: u64) -> RangeResult {
     RangeResult { refusal: 0, answer }
+}
+
+fn choice_refused(refusal: u64) -> Choice {
+    Choice {
+        refusal,
+        ..Choice::default()
+    }
 }
 
 const BAD_BLOCK: Archived = Archived {

@@ -1,6 +1,7 @@
 //! As one would first write it: split and parse, wide integers, a String for each result.
 
 pub mod archive;
+pub mod choice;
 
 use crate::{
     filled, range_answer, range_refused, refused, CheckResult, RangeResult, Reading, Row,

@@ -1,6 +1,6 @@
-//! The schedule, pack or unpack program, as the word says, as fast as we could make it.
+//! The schedule, pack, unpack or choose program, as the word says, as fast as we could make it.
 
-use plain::fast::{archive, schedule};
+use plain::fast::{archive, choice, schedule};
 use std::fs::File;
 use std::io;
 use std::os::fd::AsFd;
@@ -15,7 +15,8 @@ fn main() -> io::Result<ExitCode> {
         Some("schedule") => schedule(input, output)?,
         Some("pack") => archive::pack(input, output, |number| told.line(number))?,
         Some("unpack") => archive::unpack(input, output, |number| told.block(number))?,
-        _ => return Err(io::Error::other("usage: fast schedule|pack|unpack")),
+        Some("choose") => choice::program(input, output)?,
+        _ => return Err(io::Error::other("usage: fast schedule|pack|unpack|choose")),
     }
     Ok(told.status())
 }

@@ -1,6 +1,6 @@
-//! The schedule, pack or unpack program, as the word says, as one would first write it.
+//! The schedule, pack, unpack or choose program, as the word says, as one would first write it.
 
-use plain::simple::{archive, schedule};
+use plain::simple::{archive, choice, schedule};
 use std::io::{self, BufWriter};
 use std::process::ExitCode;
 
@@ -12,7 +12,12 @@ fn main() -> io::Result<ExitCode> {
         Some("schedule") => schedule(input, output)?,
         Some("pack") => archive::pack(input, output, |number| told.line(number))?,
         Some("unpack") => archive::unpack(input, output, |number| told.block(number))?,
-        _ => return Err(io::Error::other("usage: simple schedule|pack|unpack")),
+        Some("choose") => choice::program(input, output)?,
+        _ => {
+            return Err(io::Error::other(
+                "usage: simple schedule|pack|unpack|choose",
+            ))
+        }
     }
     Ok(told.status())
 }
