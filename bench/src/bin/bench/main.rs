@@ -14,6 +14,7 @@
 mod archive;
 mod before;
 mod calls;
+mod choices;
 mod input;
 mod jobs;
 mod programs;
@@ -218,14 +219,15 @@ fn bench_calls(files: &Files, lines: usize, passes: usize) -> io::Result<bool> {
     );
     print_calls(&calls::measure(passes, &lines), "ns");
     print_calls(&ranges::measure(passes, &lines), "ns");
+    print_calls(&choices::measure(passes, &lines), "ns");
     // Of the benchmark's lines a wrong one ends in a space; the stored ones are wrong in many ways.
     let stored = fs::read(STORED)?;
     let stored = call_lines(&stored, CALL_LINES);
     Ok(checked(
-        "the calls agree on every line and row, also on the stored ones",
+        "the calls agree on every line, row and list, also on the stored lines",
         [lines, stored]
             .iter()
-            .all(|lines| calls::agree(lines) && ranges::agree(lines)),
+            .all(|lines| calls::agree(lines) && ranges::agree(lines) && choices::agree(lines)),
     ))
 }
 
