@@ -30,9 +30,18 @@ def bad_list(blocks):
         within(number, ends) for block in blocks for number, ends in zip(block, BLOCK_RANGES))
 
 
+# What follows is kept of the last calls, since programs ask for many lists of one record.
+
+@lru_cache(maxsize=1000)
+def record(line):
+    """The record of a line, None where there is none, and 1 or 2 where document 01 refuses it so, else 0."""
+    refusal = check_line(line).refusal
+    return read_line(line), refusal if refusal in (1, 2) else 0
+
+
 @lru_cache(maxsize=100000)
 def accepted_with(wall, F):
-    """Whether "F, put in for the record's own, makes the record accepted". Kept, since programs ask the same many times."""
+    """Whether "F, put in for the record's own, makes the record accepted"."""
     return check(wall._replace(F=F)).refusal == 0
 
 
@@ -62,11 +71,10 @@ def choice(line, blocks):
     or 2"; then 27, "when no block is accepted, exactly then, with place 0 and the list's length as its count"."""
     if bad_list(blocks):
         return Choice(26, 0, 0)
-    own = check_line(line).refusal
-    if own in (1, 2):
-        return Choice(own, 0, 0)
-    wall = read_line(line)
-    accepted = [block for block in blocks if accepted_with(wall, block.F)]
+    wall, refusal = record(line)
+    if refusal:
+        return Choice(refusal, 0, 0)
+    accepted = {block for block in blocks if accepted_with(wall, block.F)}
     if not accepted:
         return Choice(27, 0, len(blocks))
     return Choice(0, best(blocks, accepted), checked(blocks, accepted))

@@ -12,8 +12,8 @@ from pathlib import Path
 from cases import read_choices, read_lines
 from generate import (C, CELLAR_WALLS, Numbers, S, STOREY_WALLS, TELLING_BYTES, cellar_edges, moderate_cellar, moderate_storey,
                       near, random_damage, storey_edges, wide_cellar, wide_storey, wrong_words)
-from selection import BLOCK_RANGES, Block, LENGTHS, accepted_with, choose
-from walls import A, K, line_of, read_line
+from selection import BLOCK_RANGES, Block, LENGTHS, accepted_with, choose, record
+from walls import A, K, line_of
 
 LEAST_STRENGTH, GREATEST_STRENGTH = BLOCK_RANGES.F
 GREATEST_LENGTH = LENGTHS[1]
@@ -57,12 +57,13 @@ def lists_of_many():
     for wall in (A, K, S(t=114, a=114)):
         least = least_accepted(wall) or 500
         dear, cheap, refused = Block(least, 20), Block(least + 1, 10), Block(least - 1, 5)
-        for length in near(1, 32, GREATEST_LENGTH, 2 * GREATEST_LENGTH, 256, 2**16):
+        for length in near(1, 32, GREATEST_LENGTH, 2 * GREATEST_LENGTH, 256):
             for others in (dear, refused):
                 yield line_of(wall), [others] * length
                 if length > 1:
                     yield line_of(wall), [cheap] + [others] * (length - 1)
                     yield line_of(wall), [others] * (length - 1) + [cheap]
+        yield from ((line_of(wall), [dear] * (2**16 + length)) for length in (0, 1, GREATEST_LENGTH))
         for place in range(GREATEST_LENGTH):
             for others in (dear, refused):
                 yield line_of(wall), [*[others] * place, cheap, *[others] * (GREATEST_LENGTH - 1 - place)]
@@ -160,7 +161,7 @@ def random_choices(numbers):
     calculated once."""
     while True:
         line = random_line(numbers)
-        wall = read_line(line)
+        wall, _ = record(line)
         least = (least_accepted(wall) if wall else None) or numbers.within(180, 1000)
         strengths = [random_strength(numbers, least) for _ in range(8)]
         for _ in range(8):

@@ -1,11 +1,12 @@
 """Compares the shared library with the oracle: acceptance cases, lines and the bytes taken of them, rows, lent buffers,
-and rows with lines; lines and rows of the minimum load and of ranges; texts and blocks of the archive.
+and rows with lines; lines and rows of the minimum load and of ranges; records with lists of blocks to choose from; texts and
+blocks of the archive.
 
-    python3 callers/python/compare.py libwallcheck.so [LINES ROWS RECORDS MINIMUM RANGES TEXTS BLOCKS]
+    python3 callers/python/compare.py libwallcheck.so [LINES ROWS RECORDS MINIMUM RANGES CHOICES TEXTS BLOCKS]
 
 Without numbers 200000 lines, 200000 rows and 100000 records are compared, 120000 lines and as many rows of the minimum
 load, 6561 small ranges, as many wide ones, twice as many other pairs of lines and three times as many of rows,
-20000 texts and 100000 blocks.
+50000 records with lists, 20000 texts and 100000 blocks of the archive.
 """
 
 import ctypes
@@ -20,17 +21,21 @@ sys.path.insert(0, str(Path(__file__).resolve().parent.parent.parent / 'oracle')
 import archive
 import archive_inputs
 import generate
+import selection
+import selection_inputs
 import walls
-from cases import (read_archive_blocks, read_archive_texts, read_lines, read_minimum_load_lines, read_minimum_load_rows,
-                   read_range_lines, read_range_rows, read_rows)
+from cases import (read_archive_blocks, read_archive_texts, read_choices, read_lines, read_minimum_load_lines,
+                   read_minimum_load_rows, read_range_lines, read_range_rows, read_rows)
 
-EDITION = 109
+EDITION = 110
 CELLS = ('usage thickness height length held distance support span bearing strength bonded dead imposed floorload '
          'building storeys otherspan calciumsilicate wind').split()
 GUARD = bytes(range(0xA0, 0xB0))
 FILL = 0xA5
 # Stands behind a text or a block, and would end its last line or its used part if a function looked there.
 BEHIND = b'\n\n'
+# Stands behind a list, and would be chosen if a function looked there.
+BEHIND_LIST = (5000, 1)
 
 
 class Result(ctypes.Structure):
@@ -44,6 +49,14 @@ class Reading(ctypes.Structure):
 
 class RangeResult(ctypes.Structure):
     _fields_ = [('refusal', ctypes.c_uint64), ('answer', ctypes.c_uint64)]
+
+
+class Block(ctypes.Structure):
+    _fields_ = [('strength', ctypes.c_uint64), ('price', ctypes.c_uint64)]
+
+
+class Choice(ctypes.Structure):
+    _fields_ = [('refusal', ctypes.c_uint64), ('place', ctypes.c_uint64), ('checked', ctypes.c_uint64)]
 
 
 class Archived(ctypes.Structure):
@@ -71,6 +84,7 @@ class Library:
         self.minimum_load_row_into = self.entry(library.wallcheck_minimum_load_row_into, [Cells, ctypes.c_double] + out)
         self.range_lines = self.entry(library.wallcheck_range_lines, line + line, RangeResult)
         self.range_rows = self.entry(library.wallcheck_range_rows, [Cells, Cells], RangeResult)
+        self.choose = self.entry(library.wallcheck_choose, line + [ctypes.POINTER(Block), ctypes.c_size_t], Choice)
         self.archive_count = self.entry(library.wallcheck_archive_count, line, Archived)
         self.archive_write = self.entry(library.wallcheck_archive_write, line + out, Archived)
         self.archive_read = self.entry(library.wallcheck_archive_read, line, Archived)
@@ -100,6 +114,10 @@ def numbers_of(result):
 
 def range_of(result):
     return result.refusal, result.answer
+
+
+def choice_of(choice):
+    return choice.refusal, choice.place, choice.checked
 
 
 def archived_of(archived):
@@ -295,6 +313,58 @@ def compare_all_ranges(library, comparison, count):
             f'with the answers {answers} and the refusals {refusals}')
 
 
+def choice_among(library, line, blocks):
+    """What the library chooses among blocks, each F and a price."""
+    return choice_of(library.choose(line, len(line), (Block * (len(blocks) + 1))(*blocks, BEHIND_LIST), len(blocks)))
+
+
+def compare_choice_cases(library, comparison):
+    compared = 0
+    for line, blocks, expected in read_choices():
+        comparison.equal((line, blocks), choice_among(library, line, blocks), expected)
+        compared += 1
+    line, one = walls.line_of(walls.K), (Block * 1)((500, 10))
+    for line, blocks, expected in ((None, None, (26, 0, 0)), (line, None, (26, 0, 0)), (None, one, (1, 0, 0))):
+        got = choice_of(library.choose(line, len(line or b''), blocks, len(blocks or ())))
+        comparison.equal((line, blocks), got, expected)
+        compared += 1
+    return compared
+
+
+def classes_of_choice(line, blocks, expected):
+    """What a choice is an example of."""
+    if expected.refusal == 27:
+        yield 'of 27, storey' if line.startswith(b'S') else 'of 27, cellar'
+    elif expected.refusal:
+        yield f'of {expected.refusal}'
+    else:
+        yield 'of a storey wall' if line.startswith(b'S') else 'of a cellar wall'
+        if len(blocks) > 1:
+            yield {1: 'of the first', len(blocks): 'of the last'}.get(expected.place, 'of one between')
+        if expected.checked < len(blocks):
+            yield 'with blocks that are not checked'
+        (wall, _), chosen = selection.record(line), blocks[expected.place - 1]
+        if any(block.price == chosen.price and selection.accepted_with(wall, block.F) for block in blocks[expected.place:]):
+            yield 'of the earlier of equals'
+
+
+CLASSES = ('of a storey wall', 'of a cellar wall', 'of the first', 'of one between', 'of the last', 'of the earlier of equals',
+           'with blocks that are not checked', 'of 27, storey', 'of 27, cellar', 'of 26', 'of 1', 'of 2')
+
+
+def compare_all_choices(library, comparison, count):
+    """What is compared, and how often each class of it comes, in words. Each has to come many times."""
+    compared, results = 0, Counter()
+    for line, blocks in selection_inputs.choices(count):
+        expected = selection.choice(line, blocks)
+        comparison.equal((line, blocks), choice_among(library, line, blocks), expected)
+        results.update(classes_of_choice(line, blocks, expected))
+        compared += 1
+    for name in CLASSES:
+        comparison.equal(f'choices {name} come {results[name]} times', results[name] >= count // 100, True)
+    return f'{compared} choices, ' + ', '.join(f'{results[name]} {name}' for name in CLASSES)
+
+
 def count_of_archive(library, text):
     return archived_of(library.archive_count(text + BEHIND, len(text)))
 
@@ -438,13 +508,14 @@ def compare_minimum_load_buffers(library, comparison):
 
 
 def main():
-    if len(sys.argv) not in (2, 9):
+    if len(sys.argv) not in (2, 10):
         sys.exit(__doc__)
-    lines, rows, records, minimum, ranges, texts, blocks = map(
-        int, sys.argv[2:] or (200000, 200000, 100000, 120000, 6561, 20000, 100000))
+    lines, rows, records, minimum, ranges, choices, texts, blocks = map(
+        int, sys.argv[2:] or (200000, 200000, 100000, 120000, 6561, 50000, 20000, 100000))
     library, comparison = Library(str(Path(sys.argv[1]).resolve())), Comparison()
     cases = (compare_cases(library, comparison) + compare_minimum_load_cases(library, comparison)
-             + compare_range_cases(library, comparison) + compare_archive_cases(library, comparison))
+             + compare_range_cases(library, comparison) + compare_choice_cases(library, comparison)
+             + compare_archive_cases(library, comparison))
     buffers = compare_buffers(library, comparison) + compare_minimum_load_buffers(library, comparison)
     print('python:', cases, 'cases,', buffers, 'buffers,',
           compare_lines(library, comparison, lines), 'lines,', compare_near_lines(library, comparison),
@@ -453,6 +524,7 @@ def main():
           compare_minimum_load_lines(library, comparison, minimum), 'lines and',
           compare_minimum_load_rows(library, comparison, minimum), 'rows of the minimum load;',
           compare_all_ranges(library, comparison, ranges) + ';',
+          compare_all_choices(library, comparison, choices) + ';',
           compare_archive_texts(library, comparison, texts), 'texts,', compare_archive_blocks(library, comparison, blocks),
           'blocks,', compare_changed_blocks(library, comparison), 'blocks with one byte changed and',
           compare_spoiled_archives(library, comparison), 'archives with one such block:',
