@@ -1,8 +1,9 @@
-"""Records with lists of blocks on which the library is compared with the oracle, and inputs of `choose`; edges first.
+"""Records with lists of blocks on which the library is compared with the oracle, and inputs of `choose`.
 
     python3 oracle/selection_inputs.py text           a record and 64 blocks, the stored input of `choose`
     python3 oracle/selection_inputs.py files FOLDER
-        inputs of `choose`, each with what it must print: FOLDER/1.in, 1.out and so on; prints how many there are
+        inputs of `choose`, FOLDER/1, FOLDER/2 and so on, and FOLDER/expected, the line that it must print for each; prints how
+        many there are
 """
 
 import sys
@@ -169,9 +170,10 @@ def random_choices(numbers):
 
 
 def choices(count):
-    """Each edge, then random records with random lists."""
+    """Edges and random records with random lists in turn, then these alone: so a smaller count has some of all kinds too."""
     edges = chain(small_lists(), lists_of_many(), lists_with_numbers_at_their_ends(), lists_for_lines(), lists_for_records())
-    return islice(chain(edges, random_choices(Numbers(19))), count)
+    random_ones = random_choices(Numbers(19))
+    return islice(chain(chain.from_iterable(zip(edges, random_ones)), random_ones), count)
 
 
 # ---- Inputs of the program
@@ -197,6 +199,15 @@ def texts_at_their_end():
         yield from (line, line + b'\n', line + b'\n\n', line + b'\n\n\n', text[:-1], text + b'\n', b'\n' + text, text + text)
     text = text_of(line_of(A), [Block(297, 5), Block(298, 1000)])
     yield from (text[:length] for length in range(len(text) - 14, len(text)))
+
+
+def texts_with_a_wrong_record():
+    """A record's line with something before it, behind it or missing, with a good and with a bad list."""
+    for line in (line_of(A), line_of(K)):
+        wrong = [line + behind for behind in (b' ', b' 0', b'0', b'\r', b'\0', b'\t', b'.', b' 298 10')]
+        wrong += [before + line for before in (b' ', b'\t', b'\0', b'\xef\xbb\xbf', b'\r')]
+        wrong += [line.lower(), line[1:], line[2:], line[:-2], line[:1] + b' ' + line[1:], line + b'\r\n', line + b'\n' + line]
+        yield from (text_of(form, blocks) for form in wrong for blocks in (CHOSEN, [*CHOSEN, Block(0, 1)]))
 
 
 def texts_with_a_wrong_block():
@@ -238,8 +249,8 @@ def long_texts():
 
 def texts():
     """Each once."""
-    return dict.fromkeys(chain(texts_of_cases(), texts_at_their_end(), texts_with_a_wrong_block(), texts_of_many_lines(),
-                               long_texts()))
+    return dict.fromkeys(chain(texts_of_cases(), texts_at_their_end(), texts_with_a_wrong_record(), texts_with_a_wrong_block(),
+                               texts_of_many_lines(), long_texts()))
 
 
 def stored_text():
@@ -252,11 +263,11 @@ def stored_text():
 
 
 def write_files(folder):
-    number = 0
-    for number, text in enumerate(texts(), 1):
-        (folder / f'{number}.in').write_bytes(text)
-        (folder / f'{number}.out').write_bytes(choose(text))
-    print(number)
+    inputs = list(texts())
+    for number, text in enumerate(inputs, 1):
+        (folder / str(number)).write_bytes(text)
+    (folder / 'expected').write_bytes(b''.join(map(choose, inputs)))
+    print(len(inputs))
 
 
 def main():
