@@ -1,16 +1,12 @@
 -- A block line: "two numbers in document 01's digits with one space between" (docs/DECISIONS.md, `choose`), F and the price.
-use Rattle.std.specs.Prelude.{ℕ, ◌+◌, ◌-◌, ◌*◌, ◌&&◌, cond, List, [], ◌∷◌, ◌++◌, eqb, leb, length, before_first, after_first, Option, Some, None}
+use Rattle.std.specs.Prelude.{ℕ, ◌+◌, ◌-◌, ◌*◌, ◌&&◌, cond, List, [], ◌∷◌, ◌++◌, eqb, leb, length, take, drop, fold, position, Option, Some, None}
 use Rattle.std.specs.Cmp.Lexicographic.{pointwise}
 use Rattle.text.specs.Decimal.{decimal}
 use Rattle.selection.specs.declared.Block.{Block}
 
 -- The value of some digits, from left to right.
-unfoldable pub value_behind : (value : ℕ) → List ℕ → ℕ
-value_behind value [] = value
-value_behind value (digit ∷ digits) = value_behind (10 * value + (digit - 48)) digits
-
 abbrev pub value_of : List ℕ → ℕ
-value_of digits = value_behind 0 digits
+value_of digits = fold (λ value digit. 10 * value + (digit - 48)) 0 digits
 
 -- "Numbers are decimal, 1 to 9 digits, without leading zeros (a lone 0 is allowed)": at most nine bytes that are the digits of their value.
 unfoldable pub read_number : List ℕ → Option ℕ
@@ -22,9 +18,14 @@ block_of (Some F) (Some price) = Some (record { strength = F; price = price })
 block_of (Some F) None = None
 block_of None price = None
 
--- What stands before the first space, and what stands behind it. Byte 32 is the space.
+-- The numbers before and behind a space; none without one.
+abbrev pub parted : List ℕ → (space : Option ℕ) → Option Block
+parted line (Some place) = block_of (read_number (take place line)) (read_number (drop (place + 1) line))
+parted line None = None
+
+-- Byte 32 is the space: the first one, since no number has one.
 unfoldable pub read_block : List ℕ → Option Block
-read_block line = block_of (read_number (before_first (λ byte. eqb byte 32) line)) (read_number (after_first (λ byte. eqb byte 32) line))
+read_block line = parted line (position (λ byte. eqb byte 32) line)
 
 -- "each further line a block": None where one of them is none.
 abbrev pub with_block : Option Block → Option (List Block) → Option (List Block)

@@ -2,6 +2,7 @@
 use Prim.Native.Nat.{ℕ, zero, suc, ◌+◌, ◌/◌, ◌%◌, ◌^◌, ◌≤◌, ◌<◌}
 use native.Mathlib.Decide.{dec_lt}
 use native.Mathlib.Nat.{pow-suc}
+use native.Mathlib.Numerals.{add-one}
 use native.Mathlib.Omega.{arith}
 use mathlib.Core.List.{[], ◌∷◌, ◌++◌}
 use mathlib.Core.Path.{◌≡◌, sym, ap, ◌∙◌}
@@ -67,6 +68,13 @@ decimal_length_bound (suc k) n h =
 
 pub decimal_length_u64 : (n : ℕ) → n < 2 ^ 64 → length (decimal n) ≤ 20
 decimal_length_u64 n h = decimal_length_bound 19 n (omega arith)
+
+-- A number of so many digits is below that power of ten.
+pub decimal_below : (n : ℕ) → n < 10 ^ length (decimal n)
+decimal_below =
+    by_digits (λ n. n < 10 ^ length (decimal n))
+    (λ n one. rw (decimal_length_digit n one) (omega arith))
+    (λ n more tenth. rw (decimal_length_more n more, add-one) (omega (arith, tenth, pow-suc 10 (length (decimal (n / 10))))))
 
 -- ── as the library prints it ──
 pub decimal_printed : (n : ℕ) → n < 2 ^ 64 → printed n ≡ decimal n

@@ -83,7 +83,7 @@ line_with_end =
 
 -- ── the lines ──
 -- Nonempty bytes have a first line, and behind its end the other lines.
-lines_of_first : (l : List ℕ) → 0 < length l → lines_of l ≡ take (line_length l) l ∷ lines_of (drop (line_length l + 1) l)
+pub lines_of_first : (l : List ℕ) → 0 < length l → lines_of l ≡ take (line_length l) l ∷ lines_of (drop (line_length l + 1) l)
 unfolding lines_of line_length in_front
 lines_of_first [] some = absurd (omega arith)
 lines_of_first (byte ∷ []) some =

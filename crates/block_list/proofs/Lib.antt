@@ -1,0 +1,2 @@
+-- Laws of the definitions, and the proofs of what is claimed.
+pub mod Number
