@@ -1,11 +1,11 @@
 -- What is kept of an input that is read piece by piece: the record's line up to 201 bytes, for a longer line is none of the form; and of what follows it 1282 bytes,
 -- for 64 lines of two numbers and their ends are at most 1280, behind the end of the record's line.
-use Rattle.std.specs.Prelude.{ℕ, List, ◌++◌, length, take, drop}
+use Rattle.std.specs.Prelude.{ℕ, min, List, ◌++◌, length, take, drop}
 use Rattle.text.specs.LineEnd.{line_length}
 use Rattle.buffer.specs.Overwrite.{overwrite}
 
 unfoldable pub kept_of : List ℕ → List ℕ
-kept_of bytes = take 201 (take (line_length bytes) bytes) ++ take 1282 (drop (line_length bytes) bytes)
+kept_of bytes = take (min (line_length bytes) 201) bytes ++ take 1282 (drop (line_length bytes) bytes)
 
 -- What `keep` leaves in the buffer and hands back, with the first `held` bytes at hand.
 pub record Kept : Type 0 where
