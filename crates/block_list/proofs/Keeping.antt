@@ -14,7 +14,7 @@ use Rattle.buffer.proofs.Overwrite.{overwrite_start}
 use Rattle.block_list.specs.Keeping.{kept_of, Kept, kept_in}
 use Rattle.block_list.proofs.Lines.{line_length_most}
 
-take_take : (n m k : ℕ) (l : List ℕ) → k ≡ min n m → take m (take n l) ≡ take k l
+pub take_take : (n m k : ℕ) (l : List ℕ) → k ≡ min n m → take m (take n l) ≡ take k l
 take_take zero m k l is = let none : 0 ≡ k = omega (arith, is) in take-nil m ∙ ap (λ (i : ℕ). take i l) none
 take_take (suc n) zero k l is = let none : 0 ≡ k = omega (arith, is) in ap (λ (i : ℕ). take i l) none
 take_take (suc n) (suc m) zero l is = absurd (let no· : ⊥ = omega (arith, is) in no·)

@@ -3,3 +3,5 @@ pub mod Number
 pub mod Lines
 pub mod Choosing
 pub mod Keeping
+pub mod Claims
+pub mod Figures
