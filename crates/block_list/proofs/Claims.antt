@@ -1,9 +1,9 @@
 -- Proofs of the claims: block lines are read exactly, and a run that keeps little chooses as for the whole input.
 use Rattle.std.proofs.Common.{Option, Some, None}
-use Prim.Native.Nat.{ℕ, zero, suc, ◌+◌, ◌-◌, ◌*◌, ◌/◌, ◌%◌, ◌^◌, ◌≤◌, ◌<◌, min}
-use mathlib.Core.Bool.{Bool, true, false, cond, not, ◌&&◌}
+use Prim.Native.Nat.{ℕ, suc, ◌+◌, ◌*◌, ◌/◌, ◌%◌, ◌^◌, ◌≤◌, ◌<◌, min}
+use mathlib.Core.Bool.{Bool, true, false, cond, not}
 use mathlib.Core.List.{List, [], ◌∷◌, ◌++◌, append_assoc, append-nil}
-use mathlib.Core.Path.{◌≡◌, ◌∙◌, refl, sym, ap, ap₂, subst}
+use mathlib.Core.Path.{◌≡◌, ◌∙◌, refl, sym, ap, ap₂}
 use Rattle.basis.proofs.Choice.{and_left, and_right}
 use lib.Seq.{drop-cons, drop-length, take-append_seam, take-append-add, drop-append_seam, drop-append-add}
 use Rattle.std.proofs.lemmas.List.{take-append-drop, take_all, take_min}
@@ -11,8 +11,8 @@ use Rattle.std.proofs.lemmas.List.Quantifiers.{position-Some}
 use native.Mathlib.Decide.{dec_le}
 use native.Mathlib.Nat.{add_assoc}
 use native.Mathlib.Omega.{arith}
-use lib.Dec.{eqb, ltb}
-use lib.ListN.{length, take, drop, get_or, length-append, length-take, length-drop}
+use lib.Dec.{eqb}
+use lib.ListN.{length, take, drop, get_or, length-append, length-take}
 use borrow.Author.Tests.{ne_eqb, eqb-true, lt-ltb}
 use Rattle.std.specs.List.{position, position_or_len, list_all}
 use Rattle.std.proofs.lemmas.Option.{none-some, same_Some}
@@ -188,8 +188,8 @@ choice_behind a more unended =
     choice_parted (a ++ more)
     ∙ ap (λ (n : ℕ). choice_listed (take n (a ++ more)) (read_blocks (lines_of (drop (n + 1) (a ++ more))))) size
     ∙ ap₂ (λ (line list : List ℕ). choice_listed line (read_blocks (lines_of list)))
-        (take-append-add a more (line_length more))
-        (ap (λ (n : ℕ). drop n (a ++ more)) (add_assoc (length a) (line_length more) 1) ∙ drop-append-add a more (line_length more + 1))
+    (take-append-add a more (line_length more))
+    (ap (λ (n : ℕ). drop n (a ++ more)) (add_assoc (length a) (line_length more) 1) ∙ drop-append-add a more (line_length more + 1))
 
 choice_of_line : (line list : List ℕ) → ended line ≡ false → choice_of_text (line ++ 10 ∷ list) ≡ choice_listed (line ++ []) (read_blocks (lines_of list))
 unfolding line_length
@@ -215,7 +215,7 @@ unfolding kept_of
 kept_line line rest unended =
     let size = line_length_line line rest unended in
     let cut : take (min (length line) 201) (line ++ 10 ∷ rest) ≡ take 201 line =
-        sym (take_take (length line) 201 (min (length line) 201) (line ++ 10 ∷ rest) refl) ∙ ap (take 201) (take-append_seam line (10 ∷ rest)) in
+    sym (take_take (length line) 201 (min (length line) 201) (line ++ 10 ∷ rest) refl) ∙ ap (take 201) (take-append_seam line (10 ∷ rest)) in
     ap (λ (n : ℕ). take (min n 201) (line ++ 10 ∷ rest) ++ take 1282 (drop n (line ++ 10 ∷ rest))) size
     ∙ ap₂ (λ (a b : List ℕ). a ++ take 1282 b) cut (drop-append_seam line (10 ∷ rest))
 

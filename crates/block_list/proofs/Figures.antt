@@ -1,6 +1,6 @@
 -- The inputs of the program `choose`, computed.
+use mathlib.Core.List.{flat_map}
 use mathlib.Core.Path.{refl}
-use Rattle.basis.specs.Range.{all_within}
 use Rattle.text.specs.Decimal.{decimal, decimal_within}
 use Rattle.text.specs.LineEnd.{in_front, lines_of}
 use Rattle.text.specs.Quoted.{bytes}
@@ -16,5 +16,5 @@ use Rattle.block_list.specs.Choice.{choice_of_text}
 use Rattle.block_list.specs.Figures.{WorkedTexts}
 
 pub worked_texts : WorkedTexts
-unfolding computes decimal decimal_within in_front lines_of bytes numbers_text count_of digit_of next run wall_of answer read_line in_range bad_list accepted price_competes better best before_best is_checked checked_behind read_number read_block read_blocks choice_of_text
+unfolding flat_map computes decimal decimal_within in_front lines_of bytes numbers_text count_of digit_of next run wall_of answer read_line in_range bad_list accepted price_competes better best before_best is_checked checked_behind read_number read_block read_blocks choice_of_text
 worked_texts = (refl, refl, refl, refl, refl, refl, refl, refl, refl)

@@ -1,15 +1,13 @@
 -- Laws of what is kept: how it lies in the buffer, how much it is, and that the choice depends on nothing else.
-use Prim.Native.Nat.{ℕ, zero, suc, ◌+◌, ◌-◌, ◌≤◌, ◌<◌, min}
-use mathlib.Core.List.{List, [], ◌∷◌, ◌++◌, append_assoc}
+use Prim.Native.Nat.{ℕ, zero, suc, ◌+◌, ◌-◌, ◌≤◌, min}
+use mathlib.Core.List.{List, [], ◌∷◌, ◌++◌}
 use mathlib.Core.Path.{◌≡◌, ◌∙◌, refl, sym, ap, ap₂}
-use native.Mathlib.Decide.{dec_le}
 use native.Mathlib.Omega.{arith}
 use lib.ListN.{length, take, drop, length-append, length-take, length-drop}
 use lib.Seq.{take-nil}
 use Rattle.std.specs.List.{copy_within}
 use Rattle.std.proofs.lemmas.List.{drop-take}
 use Rattle.text.specs.LineEnd.{line_length}
-use Rattle.buffer.specs.Overwrite.{overwrite}
 use Rattle.buffer.proofs.Overwrite.{overwrite_start}
 use Rattle.block_list.specs.Keeping.{kept_of, Kept, kept_in}
 use Rattle.block_list.proofs.Lines.{line_length_most}
@@ -39,8 +37,8 @@ module _
       let behind : drop end (take held buffer) ≡ take (held - end) (drop end buffer) = ap (λ (n : ℕ). drop end (take n buffer)) split ∙ drop-take end (held - end) buffer in
       ap (λ (n : ℕ). take (min n 201) (take held buffer) ++ take 1282 (drop n (take held buffer))) length·
       ∙ ap₂ (λ (a b : List ℕ). a ++ b)
-          (take_take held (min end 201) line buffer (omega (arith, line_is, end_held buffer held end ends)))
-          (ap (take 1282) behind ∙ take_take (held - end) 1282 list (drop end buffer) list_is)
+      (take_take held (min end 201) line buffer (omega (arith, line_is, end_held buffer held end ends)))
+      (ap (take 1282) behind ∙ take_take (held - end) 1282 list (drop end buffer) list_is)
 
   pub kept_held : line + list ≡ length (kept_of (take held buffer))
   kept_held =
@@ -64,8 +62,8 @@ module _
       let whole : end + list - end ≡ list = omega arith in
       let fits : length (kept_of (take held buffer)) ≤ length buffer = omega (arith, sym kept_held, line_is, list_within) in
       let holds =
-          after
-          ∙ ap (λ (n : ℕ). take line buffer ++ take n (drop end buffer) ++ drop (line + n) buffer) whole
-          ∙ ap₂ (λ (kept : List ℕ) (n : ℕ). kept ++ drop n buffer) (sym kept_parts) kept_held
-          ∙ sym (overwrite_start buffer (kept_of (take held buffer)) fits) in
+      after
+      ∙ ap (λ (n : ℕ). take line buffer ++ take n (drop end buffer) ++ drop (line + n) buffer) whole
+      ∙ ap₂ (λ (kept : List ℕ) (n : ℕ). kept ++ drop n buffer) (sym kept_parts) kept_held
+      ∙ sym (overwrite_start buffer (kept_of (take held buffer)) fits) in
       λ i. record { buffer = holds i; held = kept_held i }

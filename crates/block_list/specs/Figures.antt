@@ -1,5 +1,5 @@
 -- Inputs of the program `choose` and its answers.
-use Rattle.std.specs.Prelude.{ℕ, List, [], ◌∷◌, ◌≡◌, map}
+use Rattle.std.specs.Prelude.{List, [], ◌∷◌, ◌≡◌}
 use mathlib.Core.List.{flat_map}
 use Prim.Native.String.{String}
 use Rattle.text.specs.Quoted.{bytes}

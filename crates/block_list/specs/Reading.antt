@@ -1,5 +1,5 @@
 -- A block line: "two numbers in document 01's digits with one space between" (docs/DECISIONS.md, `choose`), F and the price.
-use Rattle.std.specs.Prelude.{ℕ, ◌+◌, ◌-◌, ◌*◌, ◌&&◌, cond, List, [], ◌∷◌, ◌++◌, eqb, leb, length, take, drop, fold, position, Option, Some, None}
+use Rattle.std.specs.Prelude.{ℕ, ◌+◌, ◌-◌, ◌*◌, ◌&&◌, cond, List, [], ◌∷◌, eqb, leb, length, take, drop, fold, position, Option, Some, None}
 use Rattle.std.specs.Cmp.Lexicographic.{pointwise}
 use Rattle.text.specs.Decimal.{decimal}
 use Rattle.selection.specs.declared.Block.{Block}

@@ -42,11 +42,7 @@ fn turn<I: Read>(reader: &mut I, input: &mut Input<'_>) -> Result<bool, Failure>
 }
 
 // Nothing says that an input ends, so the turns are counted, up to a number that no run reaches.
-fn run<R: Print, I: Read>(
-    rt: &R,
-    reader: &mut I,
-    input: &mut Input<'_>,
-) -> Result<(), Failure> {
+fn run<R: Print, I: Read>(rt: &R, reader: &mut I, input: &mut Input<'_>) -> Result<(), Failure> {
     for _ in 0..u64::MAX {
         if !turn(reader, input)? {
             break;
@@ -54,8 +50,7 @@ fn run<R: Print, I: Read>(
     }
     let mut output = [0u8; OUTPUT];
     let written = input.answer(&mut output);
-    rt.write_all(&output[..written])
-        .map_err(|_| Failure::Write)
+    rt.write_all(&output[..written]).map_err(|_| Failure::Write)
 }
 
 fn main(rt: HostRuntime) {

@@ -1,13 +1,12 @@
 -- Proofs of the claims on the choice and the count.
-use Prim.Native.Nat.{ℕ, zero, suc, ◌+◌, ◌≤◌, ◌<◌}
-use mathlib.Core.Bool.{Bool, true, false, true≢false, cond, not}
-use mathlib.Core.List.{List, [], ◌∷◌, ◌++◌, append_assoc}
-use mathlib.Core.Logic.{◌↔◌}
+use Prim.Native.Nat.{ℕ, zero, suc, ◌≤◌, ◌<◌}
+use mathlib.Core.Bool.{Bool, true, false, true≢false, not}
+use mathlib.Core.List.{List, [], ◌∷◌}
 use mathlib.Core.Path.{◌≡◌, ◌∙◌, refl, sym, ap, subst}
 use native.Mathlib.Omega.{arith}
 use native.Mathlib.Decide.{dec_lt}
 use lib.ListN.{length}
-use borrow.Author.Tests.{ltb-true, ltb-false, lt-ltb, le-ltb, eqb-true, eqb-false, eq-eqb, not-false}
+use borrow.Author.Tests.{ltb-true, ltb-false, lt-ltb, le-ltb, eqb-true, eq-eqb}
 use Rattle.std.proofs.Common.{Option, Some, None}
 use Rattle.basis.specs.Refusal.{first_or, NoneApplies}
 use Rattle.basis.proofs.Choice.{cond_cases}
@@ -19,9 +18,9 @@ use Rattle.selection.specs.declared.Choice.{Choice}
 use Rattle.selection.specs.declared.Placed.{Placed}
 use Rattle.selection.specs.Blocks.{bad_list}
 use Rattle.selection.specs.Choice.{accepted, price_competes, better, is_checked, before_best, checked_count, chosen, refused, refusals, choice}
-use Rattle.selection.specs.Claims.{At, Accepts, NoneAccepted, Cheapest, ChosenExactly, OnePlace, RefusedAs27Exactly, LengthCountedWith27, CheckedExactly, CountWithinList, AllCheckedWhereNoneAccepted}
+use Rattle.selection.specs.Claims.{Accepts, NoneAccepted, Cheapest, ChosenExactly, OnePlace, RefusedAs27Exactly, LengthCountedWith27, CheckedExactly, CountWithinList, AllCheckedWhereNoneAccepted}
 use Rattle.selection.proofs.Places.{at_within, each_accepted, all_accepted}
-use Rattle.selection.proofs.Standing.{Standing, Stands, NotOne, SoFar, standing_of, stands_found, none_found, none_checked, checked_most, first_checked}
+use Rattle.selection.proofs.Standing.{Standing, Stands, NotOne, standing_of, stands_found, none_found, none_checked, checked_most, first_checked}
 
 -- ---- a test and what it says
 

@@ -1,6 +1,5 @@
 -- The examples of the choice.
 use mathlib.Core.Path.{refl}
-use Rattle.basis.specs.Range.{all_within}
 use Rattle.walls.proofs.Computes.{computes}
 use Rattle.selection.specs.Blocks.{in_range, bad_list}
 use Rattle.selection.specs.Choice.{accepted, price_competes, better, best, before_best, is_checked, checked_behind}

@@ -1,11 +1,10 @@
 -- The refusals that come before the choice: what a bad list is, and 26 and 2 exactly.
-use Prim.Native.Nat.{ℕ, ◌+◌, ◌≤◌, ◌<◌}
-use mathlib.Core.Bool.{Bool, true, false, true≢false, cond, not, ◌&&◌, ◌||◌}
+use Prim.Native.Nat.{ℕ, ◌+◌}
+use mathlib.Core.Bool.{Bool, true, false, cond, not, ◌&&◌}
 use mathlib.Core.List.{List, [], ◌∷◌, ◌++◌}
 use mathlib.Core.Logic.{◌⊎◌, inl, inr}
-use mathlib.Core.Path.{◌≡◌, ◌∙◌, refl, sym, ap}
+use mathlib.Core.Path.{◌≡◌, refl, ap}
 use native.Mathlib.Omega.{arith}
-use lib.Dec.{eqb, ltb}
 use lib.ListN.{length}
 use borrow.Author.Tests.{not-false, eqb-false, ltb-false, le-ltb, ne_eqb}
 use Rattle.std.specs.Prelude.{Option, Some, None, Result, Ok, Err}
@@ -28,7 +27,7 @@ use Rattle.selection.specs.declared.Block.{Block}
 use Rattle.selection.specs.declared.Choice.{Choice}
 use Rattle.selection.specs.Blocks.{ranges, in_range as block_in_range, bad_list}
 use Rattle.selection.specs.Choice.{with_strength, accepted, better, best, before_best, price_competes, is_checked, checked_behind, checked_count, chosen, refused, refusals, choice}
-use Rattle.selection.specs.Claims.{At, GoodListExactly, RefusedAs26Exactly, RefusedAs2Exactly, OnlyTheseRefusals, StrengthInRange, OwnStrengthPlaysNoPart}
+use Rattle.selection.specs.Claims.{GoodListExactly, RefusedAs26Exactly, RefusedAs2Exactly, OnlyTheseRefusals, StrengthInRange, OwnStrengthPlaysNoPart}
 use Rattle.selection.proofs.Places.{each_at, all_at}
 
 -- What is given where a refusal comes before the choice, or none does.

@@ -1,5 +1,5 @@
 -- Document 02, #110: "a list of 1 to 64 blocks, each with F in range and a price 1..1000000".
-use Rattle.std.specs.Prelude.{ℕ, Bool, not, ◌||◌, List, [], ◌∷◌, eqb, ltb, length}
+use Rattle.std.specs.Prelude.{Bool, not, ◌||◌, List, [], ◌∷◌, eqb, ltb, length}
 use Rattle.std.specs.List.{list_all}
 use Rattle.basis.specs.Range.{Range, ◌from◌to◌, all_within}
 use Rattle.selection.specs.declared.Block.{Block}

@@ -4,7 +4,6 @@ use Rattle.walls.specs.declared.Wall.{Wall}
 use Rattle.walls.specs.declared.Wall.TheVariants.{Storey, Cellar}
 use Rattle.walls.specs.Examples.{example_a, example_k}
 use Rattle.selection.specs.declared.Block.{Block}
-use Rattle.selection.specs.declared.Choice.{Choice}
 use Rattle.selection.specs.Choice.{choice}
 
 -- Blocks as F and price.

@@ -1,14 +1,14 @@
 -- Laws of the choice of a block for a line.
 use Rattle.std.proofs.Common.{Option, Some, None}
-use Prim.Native.Nat.{ℕ, ◌≤◌, ◌<◌, ◌^◌}
-use mathlib.Core.Bool.{Bool, true, false, true≢false, cond}
+use Prim.Native.Nat.{ℕ}
+use mathlib.Core.Bool.{Bool, true, false, cond}
 use mathlib.Core.List.{List}
 use mathlib.Core.Logic.{◌⊎◌, inl, inr, ◌↔◌}
 use mathlib.Core.Path.{◌≡◌, ◌∙◌, refl, sym, ap}
 use native.Mathlib.Omega.{arith}
 use Rattle.walls.specs.declared.Wall.{Wall}
 use Rattle.walls.specs.declared.Wall.TheVariants.{Storey, Cellar}
-use Rattle.walls.specs.Check.{numbers_of, in_range}
+use Rattle.walls.specs.Check.{numbers_of}
 use Rattle.line.specs.Grammar.{NineDigits, line_of}
 use Rattle.line.specs.Reading.{read_line}
 use Rattle.line.proofs.Claims.{reading_sound, reading_complete, malformed_exactly}

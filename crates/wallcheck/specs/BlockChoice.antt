@@ -1,7 +1,6 @@
 -- The entry of document 02, #110, for every line and list of blocks: what it answers, and what is claimed of it.
 use Rattle.std.specs.Prelude.{ℕ, Bool, cond, true, false, List, ◌↔◌, ◌≡◌, Option, Some, None}
 use Rattle.basis.specs.Range.{AllWithin}
-use Rattle.basis.specs.Refusal.{NoneApplies}
 use Rattle.walls.specs.declared.Wall.{Wall}
 use Rattle.walls.specs.Check.{numbers_of, in_range, check}
 use Rattle.line.specs.Grammar.{NineDigits, line_of}

@@ -1,8 +1,7 @@
 -- `block_list::choose` meets its contract: the first line, and the blocks of the lines behind its end.
-use Rattle.std.proofs.Common.{◌≡◌, ◌∙◌, Option, Some, ℕ, List, take, sym, ap, ap₂, arith}
+use Rattle.std.proofs.Common.{◌∙◌, ℕ, List, take, sym, ap, ap₂, arith}
 use lib.Seq.{length-take-le}
 use Rattle.text.specs.LineEnd.{lines_of}
-use Rattle.selection.specs.declared.Block.{Block}
 use Rattle.block_list.specs.Reading.{read_blocks}
 use Rattle.block_list.specs.Choice.{choice_listed}
 use Rattle.block_list.proofs.Choosing.{choice_too_long, choice_parted, end_within, lines_behind, first_line}

@@ -1,8 +1,7 @@
 -- `block_list::read_blocks` meets its contract: each turn reads the line that begins at `taken`.
-use Rattle.std.proofs.Common.{◌≡◌, ◌∙◌, ◌+◌, ◌<◌, ℕ, List, ◌++◌, [], ◌∷◌, take, length, sym, ap, arith, add-one, length-append, length-take, length-set}
+use Rattle.std.proofs.Common.{◌∙◌, ◌<◌, [], ◌∷◌, take, sym, arith, add-one, length-append, length-take, length-set}
 use Rattle.std.proofs.Math.Seq.{take-suc-set}
 use Rattle.text.specs.LineEnd.{lines_of}
-use Rattle.selection.specs.declared.Block.{Block}
 use Rattle.block_list.specs.Reading.{read_blocks}
 use Rattle.block_list.proofs.Lines.{behind_none, line_within, none_read, block_read, behind_longer, all_read}
 use Rattle.block_list.proofs.read_blocks.Goals as goal

@@ -1,5 +1,5 @@
 -- `report::write` meets its contract: the text is the five numbers, put before one another from the last to the first.
-use Rattle.std.proofs.Common.{◌≡◌, ◌∙◌, FitsSigned, w64, ap, length, rules}
+use Rattle.std.proofs.Common.{◌≡◌, ◌∙◌, FitsSigned, w64, ap, rules}
 use mir.Facts.{to_z-of_z}
 use Rattle.report.specs.Text.{result_text}
 use Rattle.report.specs.Written.{text_written}

@@ -1,5 +1,5 @@
 -- `selection::best` meets its contract: with each block the best and the count go on as proofs/Standing says.
-use Rattle.std.proofs.Common.{◌≡◌, ◌∙◌, ℕ, ◌+◌, ◌≤◌, ◌<◌, List, ◌++◌, [], ◌∷◌, take, get_or, length, refl, sym, arith, add-one, length-take}
+use Rattle.std.proofs.Common.{◌≡◌, ℕ, ◌+◌, ◌<◌, List, ◌++◌, [], ◌∷◌, take, get_or, length, refl, arith, add-one, length-take}
 use Rattle.std.proofs.Math.Seq.{take-suc}
 use Rattle.std.proofs.lemmas.List.{take_all}
 use Rattle.selection.specs.declared.Block.{Block}

@@ -1,5 +1,5 @@
 -- `Input::keep` meets its contract.
-use Rattle.std.proofs.Common.{◌≡◌, ◌∙◌, arith}
+use Rattle.std.proofs.Common.{arith}
 use Rattle.block_list.proofs.Keeping.{end_held, list_within, kept_is}
 use Rattle.block_list.proofs.Input.keep.Goals as goal
 

@@ -1,7 +1,6 @@
 -- `block_list::block_line::read_block` meets its contract.
-use Rattle.std.proofs.Common.{◌≡◌, ◌∙◌, ◌+◌, Option, Some, None, ℕ, List, drop, take, refl, sym, ap, ap₂}
+use Rattle.std.proofs.Common.{◌∙◌, ◌+◌, Option, ℕ, drop, ap, ap₂}
 use Rattle.std.proofs.lemmas.List.{take_rest}
-use Rattle.selection.specs.declared.Block.{Block}
 use Rattle.block_list.specs.Reading.{block_of, parted, read_number, read_block}
 use Rattle.block_list.proofs.block_line.read_block.Goals as goal
 

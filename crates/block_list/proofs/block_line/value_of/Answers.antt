@@ -1,5 +1,5 @@
 -- `block_list::block_line::value_of` meets its contract.
-use Rattle.std.proofs.Common.{◌≡◌, ◌∙◌, ◌+◌, ◌-◌, ◌*◌, refl, arith, add-one}
+use Rattle.std.proofs.Common.{◌+◌, ◌-◌, ◌*◌, refl, arith, add-one}
 use native.Mathlib.Nat.{pow-succ'}
 use Rattle.std.proofs.lemmas.List.Sums.{fold_more}
 use Rattle.block_list.proofs.block_line.value_of.Goals as goal
