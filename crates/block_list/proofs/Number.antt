@@ -3,7 +3,7 @@ use Rattle.std.proofs.Common.{Some, None}
 use Prim.Native.Nat.{ℕ, ◌≤◌, ◌<◌}
 use mathlib.Core.Bool.{Bool, true, false, cond, ◌&&◌}
 use mathlib.Core.List.{List}
-use mathlib.Core.Path.{◌≡◌, ◌∙◌, refl, sym, ap}
+use mathlib.Core.Path.{◌≡◌, ◌∙◌, refl, sym, ap, ap₂}
 use native.Mathlib.Omega.{arith}
 use lib.Dec.{eqb, leb}
 use lib.ListN.{length}
@@ -36,11 +36,13 @@ same_bytes xs ys same = go (pointwise eqb xs ys) refl
 
 pub read_value : (digits : List ℕ) → length digits ≤ 9 → digits ≡ decimal (value_of digits) → read_number digits ≡ Some (value_of digits)
 unfolding read_number
-read_value digits few same = rw (le-leb (length digits) 9 few, same_bytes digits (decimal (value_of digits)) same) refl
+read_value digits few same =
+    ap₂ (λ (short proper : Bool). cond (short && proper) (Some (value_of digits)) None) (le-leb (length digits) 9 few) (same_bytes digits (decimal (value_of digits)) same)
 
 pub none_over_nine : (digits : List ℕ) → 9 < length digits → read_number digits ≡ None
 unfolding read_number
-none_over_nine digits many = rw (lt-leb (length digits) 9 many) refl
+none_over_nine digits many =
+    ap (λ (short : Bool). cond (short && pointwise eqb digits (decimal (value_of digits))) (Some (value_of digits)) None) (lt-leb (length digits) 9 many)
 
 pub none_where_other : (digits : List ℕ) → (digits ≡ decimal (value_of digits) → ⊥) → read_number digits ≡ None
 unfolding read_number

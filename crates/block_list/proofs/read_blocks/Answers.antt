@@ -1,10 +1,14 @@
 -- `block_list::read_blocks` meets its contract: each turn reads the line that begins at `taken`.
-use Rattle.std.proofs.Common.{◌∙◌, ◌<◌, [], ◌∷◌, take, sym, arith, add-one, length-append, length-take, length-set}
+use Rattle.std.proofs.Common.{◌≡◌, ◌∙◌, ◌+◌, ◌<◌, ℕ, List, ◌++◌, [], ◌∷◌, take, drop, set, length, ap, sym, arith, add-one, length-append, length-take, length-set}
 use Rattle.std.proofs.Math.Seq.{take-suc-set}
 use Rattle.text.specs.LineEnd.{lines_of}
+use Rattle.selection.specs.declared.Block.{Block}
 use Rattle.block_list.specs.Reading.{read_blocks}
-use Rattle.block_list.proofs.Lines.{behind_none, line_within, none_read, block_read, behind_longer, all_read}
+use Rattle.block_list.proofs.Lines.{behind, behind_none, line_within, none_read, block_read, behind_longer, all_read}
 use Rattle.block_list.proofs.read_blocks.Goals as goal
+
+one_more : (blocks : List Block) (i : ℕ) (block : Block) → i < length blocks → take (i + 1) (set blocks i block) ≡ take i blocks ++ block ∷ []
+one_more blocks i block within = rw add-one (take-suc-set blocks i block within)
 
 pub loop-taken-init : goal.loop-taken-init
 loop-taken-init c = record { few = omega arith; size = c.told-blocks; read = behind_none (read_blocks (lines_of c.args.lines.now)) }
@@ -37,8 +41,9 @@ loop-taken-preserved c =
       few = omega (arith, fewer);
       size = length-set _ _ _ ∙ c.loop-taken.invariant.size;
       read =
-          rw (add-one, take-suc-set c.loop-taken.blocks c.loop-taken.count c.in_ok-block.block (omega (arith, fewer, c.loop-taken.invariant.size)))
-          (block_read _ _ _ c.loop-taken-test.true c.line_end-end.ensures _ c.loop-taken.invariant.read c.in_ok-block.block c.in_ok-block.ensures);
+          block_read _ _ _ c.loop-taken-test.true c.line_end-end.ensures _ c.loop-taken.invariant.read c.in_ok-block.block c.in_ok-block.ensures
+          ∙ ap (λ (found : List Block). behind found (read_blocks (lines_of (drop (c.line_end-end.result + 1) c.args.lines.now))))
+          (sym (one_more c.loop-taken.blocks c.loop-taken.count c.in_ok-block.block (omega (arith, fewer, c.loop-taken.invariant.size))));
     }
 
 pub returns : goal.returns
