@@ -87,7 +87,8 @@ typedef struct {
 
 /* A building block that a merchant offers; the blocks of the archive are others. */
 typedef struct {
-    uint64_t strength; /* (F) of the masonry with this block, in hundredths of N/mm2, 1..5000 */
+    uint64_t strength; /* (F) of the masonry with this block, in hundredths of N/mm2, 1..5000; the block's own class is another
+                        * number */
     uint64_t price;    /* 1..1000000, in any unit, the same for all blocks of a list */
 } wallcheck_block;
 

@@ -7,7 +7,7 @@ ghost use Rattle.basis.specs.Load.{rounded_load};
 ghost use Rattle.basis.specs.Refusal.{number_of, verdict_number};
 ghost use Rattle.basis.specs.Result.{refused_with, filled_with};
 
-// Why a record, a line, a buffer, a block, a text, a pair of records or a list of blocks is refused, with the numbers of document 01's table and, from 21 on, of document 02.
+// Why a record, a line, a buffer, a block of an archive, a text, a pair of records or a list of building blocks is refused, with the numbers of document 01's table and, from 21 on, of document 02.
 #[derive(Clone, Copy, Debug, PartialEq, Eq)]
 pub enum Refusal {
     NotALine = 1,

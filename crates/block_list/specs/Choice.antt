@@ -1,4 +1,4 @@
--- What the program `choose` answers: "The first line of its input is the record, each further line a block".
+-- What the program `choose` answers (docs/DECISIONS.md, "#110, `choose`"): the first line of its input is the record, each further line a block.
 use Rattle.std.specs.Prelude.{ℕ, List, [], ◌∷◌, Option, Some, None}
 use Rattle.text.specs.LineEnd.{lines_of}
 use Rattle.report.specs.Text.{numbers_text}
@@ -21,6 +21,6 @@ choice_of_lines (line ∷ lines) = choice_listed line (read_blocks lines)
 unfoldable pub choice_of_text : List ℕ → Choice
 choice_of_text text = choice_of_lines (lines_of text)
 
--- "prints refusal, place and count"
+-- What it prints: refusal, place and count.
 abbrev pub choice_text : Choice → List ℕ
 choice_text choice = numbers_text choice.refusal choice.place choice.checked

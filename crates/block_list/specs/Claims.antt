@@ -10,7 +10,7 @@ use Rattle.block_list.specs.Keeping.{kept_of}
 abbrev pub NumberReadExactly : Type 0
 NumberReadExactly = (digits : List ℕ) (n : ℕ) → (read_number digits ≡ Some n) ↔ ((n < 10 ^ 9) × (digits ≡ decimal n))
 
--- The line of a block: "two numbers .. with one space between".
+-- The line of a block: two numbers with one space between.
 abbrev pub block_line : Block → List ℕ
 block_line block = decimal block.strength ++ 32 ∷ decimal block.price
 

@@ -1,4 +1,4 @@
--- A block line: "two numbers in document 01's digits with one space between" (docs/DECISIONS.md, `choose`), F and the price.
+-- A block line (docs/DECISIONS.md, "#110, `choose`"): two numbers in document 01's digits with one space between, F and the price.
 use Rattle.std.specs.Prelude.{ℕ, ◌+◌, ◌-◌, ◌*◌, ◌&&◌, cond, List, [], ◌∷◌, eqb, leb, length, take, drop, fold, position, Option, Some, None}
 use Rattle.std.specs.Cmp.Lexicographic.{pointwise}
 use Rattle.text.specs.Decimal.{decimal}
@@ -27,7 +27,7 @@ parted line None = None
 unfoldable pub read_block : List ℕ → Option Block
 read_block line = parted line (position (λ byte. eqb byte 32) line)
 
--- "each further line a block": None where one of them is none.
+-- The blocks of lines: None where one of them is none.
 abbrev pub with_block : Option Block → Option (List Block) → Option (List Block)
 with_block (Some block) (Some blocks) = Some (block ∷ blocks)
 with_block (Some block) None = None

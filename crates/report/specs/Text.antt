@@ -13,7 +13,7 @@ unfoldable pub result_text : CheckResult → List ℕ
 result_text r =
     decimal r.refusal ++ 32 ∷ decimal r.second ++ 32 ∷ decimal r.load ++ 32 ∷ decimal r.resistance ++ 32 ∷ signed r.spare ++ 10 ∷ []
 
--- Document 02, #110, has three numbers: in the same way, and 64 bytes are enough whatever they are.
+-- Three numbers, those of a choice (document 02, #110), in the same way; 64 bytes are enough whatever they are.
 unfoldable pub numbers_text : (first second third : ℕ) → List ℕ
 numbers_text first second third = decimal first ++ 32 ∷ decimal second ++ 32 ∷ decimal third ++ 10 ∷ []
 

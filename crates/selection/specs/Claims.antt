@@ -59,10 +59,11 @@ CheckedExactly =
     (wall : Wall) (before : List Block) (block : Block) →
     (is_checked wall before block ≡ true) ↔ ((k : ℕ) (other : Block) → At before k other → Accepts wall other → block.price < other.price)
 
--- The first block is checked in any case, and none is counted twice; all are where none is accepted.
+-- The first block of a list is checked in any case, and no more than the list has.
 abbrev pub CountWithinList : Type 0
 CountWithinList = (wall : Wall) (blocks : List Block) → (0 < length blocks → 1 ≤ checked_count wall blocks) × (checked_count wall blocks ≤ length blocks)
 
+-- All are, where none is accepted.
 abbrev pub AllCheckedWhereNoneAccepted : Type 0
 AllCheckedWhereNoneAccepted = (wall : Wall) (blocks : List Block) → NoneAccepted wall blocks → checked_count wall blocks ≡ length blocks
 

@@ -43,7 +43,7 @@ impl Block {
 pub fn is_bad_list(blocks: &[Block]) -> bool
     ensures { result ≡ bad_list blocks.now }
 {
-    (blocks.len() == 0) | (MOST_BLOCKS < blocks.len()) | !every_in_range(blocks)
+    (blocks.len() == 0) | (MOST_BLOCKS < blocks.len()) || !every_in_range(blocks)
 }
 
 fn every_in_range(blocks: &[Block]) -> bool
