@@ -13,7 +13,7 @@ SONAME = libwallcheck.so.$(firstword $(subst ., ,$(VERSION)))
 SHARED = libwallcheck.so.$(VERSION)
 # What is installed, each with a script of its name.
 PROGRAMS = schedule pack unpack choose
-# What is timed as a whole program: choose answers once, in the time that it takes to start a process.
+# What is timed as a whole program, in this order. choose is not: it answers once, in the time that it takes to start a process.
 TIMED = schedule pack unpack
 FUNCTIONS = wallcheck_edition wallcheck_line wallcheck_line_taken wallcheck_line_into wallcheck_row wallcheck_row_into \
 	wallcheck_minimum_load_line wallcheck_minimum_load_line_into wallcheck_minimum_load_row wallcheck_minimum_load_row_into \

@@ -85,7 +85,7 @@ typedef struct {
     uint64_t answer;  /* 1 every record between is accepted; 2 none is; 3 some are and others are not */
 } wallcheck_range;
 
-/* A building block that a merchant offers; the blocks of the archive are others. */
+/* A building block that a merchant offers, and not one of the archive's blocks of 512 bytes. */
 typedef struct {
     uint64_t strength; /* (F) of the masonry with this block, in hundredths of N/mm2, 1..5000; the block's own class is another
                         * number */

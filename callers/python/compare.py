@@ -361,7 +361,7 @@ def compare_all_choices(library, comparison, count):
         results.update(classes_of_choice(line, blocks, expected))
         compared += 1
     for name in CLASSES:
-        comparison.equal(f'choices {name} come {results[name]} times', results[name] >= count // 100, True)
+        comparison.equal(f'choices {name} come {results[name]} times', results[name] >= max(1, count // 100), True)
     return f'{compared} choices, ' + ', '.join(f'{results[name]} {name}' for name in CLASSES)
 
 

@@ -10,7 +10,7 @@ use lib.ListN.{length, take, drop, drop_of_length-le}
 use borrow.Author.Tests.{lt-ltb}
 use Rattle.std.proofs.lemmas.List.{take_rest}
 use Rattle.text.specs.LineEnd.{line_length, lines_of}
-use Rattle.text.proofs.LineEnd.{lines_of_first}
+use Rattle.text.proofs.LineEnd.{line_length_most, lines_of_first}
 use Rattle.selection.specs.declared.Block.{Block}
 use Rattle.selection.specs.Blocks.{bad_list}
 use Rattle.selection.specs.Choice.{refused}
@@ -18,7 +18,6 @@ use Rattle.wallcheck.specs.BlockChoice.{choice_line}
 use Rattle.wallcheck.proofs.BlockChoice.{choice_bad_list}
 use Rattle.block_list.specs.Reading.{read_blocks}
 use Rattle.block_list.specs.Choice.{choice_listed, choice_of_lines, choice_of_text}
-use Rattle.block_list.proofs.Lines.{line_length_most}
 
 -- More than 64 blocks are a bad list, and so is none.
 

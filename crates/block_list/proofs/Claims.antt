@@ -70,12 +70,12 @@ parts_at l place within is =
     sym (take-append-drop place l)
     ∙ ap (λ (rest : List ℕ). take place l ++ rest) (drop-cons l place 0 within ∙ ap₂ (λ (byte n : ℕ). byte ∷ drop n l) is next)
 
-both_read : (line : List ℕ) (F price : Option ℕ) (block : Block) → block_of F price ≡ Some block → (F ≡ Some block.strength) × (price ≡ Some block.price)
-both_read line (Some F) (Some price) block is =
+both_read : (F price : Option ℕ) (block : Block) → block_of F price ≡ Some block → (F ≡ Some block.strength) × (price ≡ Some block.price)
+both_read (Some F) (Some price) block is =
     let same = same_Some (record { strength = F; price = price }) block is in
     (ap (λ (b : Block). Some b.strength) same, ap (λ (b : Block). Some b.price) same)
-both_read line (Some F) None block is = absurd (none-some block is)
-both_read line None price block is = absurd (none-some block is)
+both_read (Some F) None block is = absurd (none-some block is)
+both_read None price block is = absurd (none-some block is)
 
 pub block_read_exactly : BlockReadExactly
 unfolding read_block
@@ -88,7 +88,7 @@ block_read_exactly line block = (
         (block.strength < 10 ^ 9) × (block.price < 10 ^ 9) × (line ≡ block_line block)
     from (Some place) at is =
         let found = position-Some is_space line place 0 at in
-        let numbers = both_read line (read_number (take place line)) (read_number (drop (place + 1) line)) block is in
+        let numbers = both_read (read_number (take place line)) (read_number (drop (place + 1) line)) block is in
         let F = (number_read_exactly (take place line) block.strength).0 numbers.0 in
         let price = (number_read_exactly (drop (place + 1) line) block.price).0 numbers.1 in (
           F.0,

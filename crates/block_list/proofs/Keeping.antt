@@ -8,9 +8,9 @@ use lib.Seq.{take-nil}
 use Rattle.std.specs.List.{copy_within}
 use Rattle.std.proofs.lemmas.List.{drop-take}
 use Rattle.text.specs.LineEnd.{line_length}
+use Rattle.text.proofs.LineEnd.{line_length_most}
 use Rattle.buffer.proofs.Overwrite.{overwrite_start}
 use Rattle.block_list.specs.Keeping.{kept_of, Kept, kept_in}
-use Rattle.block_list.proofs.Lines.{line_length_most}
 
 pub take_take : (n m k : ℕ) (l : List ℕ) → k ≡ min n m → take m (take n l) ≡ take k l
 take_take zero m k l is = let none : 0 ≡ k = omega (arith, is) in take-nil m ∙ ap (λ (i : ℕ). take i l) none
@@ -40,7 +40,7 @@ module _
       (take_take held (min end 201) line buffer (omega (arith, line_is, end_held buffer held end ends)))
       (ap (take 1282) behind ∙ take_take (held - end) 1282 list (drop end buffer) list_is)
 
-  pub kept_held : line + list ≡ length (kept_of (take held buffer))
+  kept_held : line + list ≡ length (kept_of (take held buffer))
   kept_held =
       omega (
         arith,

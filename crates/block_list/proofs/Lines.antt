@@ -8,7 +8,7 @@ use lib.ListN.{length, take, drop, length-append, length-drop, drop_of_length-le
 use Rattle.std.proofs.lemmas.Option.{none-some, same_Some}
 use lib.Seq.{drop-drop}
 use Rattle.text.specs.LineEnd.{line_length, lines_of}
-use Rattle.text.proofs.LineEnd.{ended_cases, line_length_ended, line_length_unended, lines_of_first}
+use Rattle.text.proofs.LineEnd.{line_length_most, lines_of_first}
 use Rattle.selection.specs.declared.Block.{Block}
 use Rattle.block_list.specs.Reading.{with_block, read_block, read_blocks}
 
@@ -25,15 +25,12 @@ behind_more : (found : List Block) (block : Block) (read : Option (List Block)) 
 behind_more found block (Some blocks) = ap (λ (bs : List Block). Some bs) (sym (append_assoc found (block ∷ []) blocks))
 behind_more found block None = refl
 
-pub line_length_most : (l : List ℕ) → line_length l ≤ length l
-line_length_most l = ended_cases (line_length l ≤ length l) l (λ e. omega (arith, line_length_ended l e)) (λ e. omega (arith, line_length_unended l e))
-
 -- The lines that are left begin with the line from `taken` to `end`.
 module _ (lines : List ℕ) (taken end : ℕ) (some· : taken < length lines) (ends : end ≡ taken + line_length (drop taken lines)) where
   pub line_within : end ≤ length lines
   line_within = omega (arith, ends, some·, line_length_most (drop taken lines), length-drop taken lines)
 
-  pub first_left : read_blocks (lines_of (drop taken lines)) ≡ with_block (read_block (take (end - taken) (drop taken lines))) (read_blocks (lines_of (drop (end + 1) lines)))
+  first_left : read_blocks (lines_of (drop taken lines)) ≡ with_block (read_block (take (end - taken) (drop taken lines))) (read_blocks (lines_of (drop (end + 1) lines)))
   unfolding read_blocks
   first_left =
       let size : line_length (drop taken lines) ≡ end - taken = omega (arith, ends) in

@@ -7,7 +7,7 @@ use Rattle.buffer.specs.Overwrite.{overwrite}
 unfoldable pub kept_of : List ℕ → List ℕ
 kept_of bytes = take (min (line_length bytes) 201) bytes ++ take 1282 (drop (line_length bytes) bytes)
 
--- What `keep` leaves in the buffer and hands back, with the first `held` bytes at hand.
+-- What `keep` leaves in the buffer, and how many bytes are held then, with the first `held` bytes at hand.
 pub record Kept : Type 0 where
   pub buffer : List ℕ
   pub held : ℕ

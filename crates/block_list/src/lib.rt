@@ -13,11 +13,9 @@ mod block_line;
 
 use basis::Refusal;
 use block_line::read_block;
+use line::OVERLONG;
 use selection::{Block, Choice, MOST_BLOCKS};
 use wallcheck::block_choice;
-
-// A record's line of so many bytes is none of the form, so no more of it is kept.
-const OVERLONG: usize = 201;
 
 // So many bytes, the end of the record's line among them, are more than 64 lines of two numbers have.
 const OVERLONG_LIST: usize = 1282;

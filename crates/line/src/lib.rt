@@ -17,6 +17,9 @@ use walls::Wall;
 // How many digits a number has at most.
 const MOST_DIGITS: u64 = 9;
 
+// A line of so many bytes is none of the form, whatever they are: nobody has to hold more of one.
+pub const OVERLONG: usize = 201;
+
 // What a line is read as, and how many of its bytes were taken: up to and including the first wrong one, or all.
 #[derive(Clone, Copy)]
 pub struct CountedReading {

@@ -6,13 +6,11 @@ ghost use Rattle.buffer.specs.Overwrite.{overwrite};
 ghost use Rattle.lines.specs.Output.{output_of};
 ghost use Rattle.lines.specs.Answer.{ended_length, answered_of, room_for, answered, answered_last};
 
+use line::OVERLONG;
 use wallcheck::Checked;
 
 // The text of every result fits this many bytes.
 const LONGEST_TEXT: usize = 64;
-
-// A line with this many bytes is refusal 1, so no more of a line that has no end yet is held.
-const OVERLONG: usize = 201;
 
 // The bytes of an input that are read and not answered yet: they stand first in a buffer.
 #[derive(Drop)]
@@ -99,7 +97,7 @@ fn answer_lines(block: &[u8], output: &mut [u8]) -> Counts
     Counts { taken, written }
 }
 
-// How many of the `left` bytes that are not answered are held.
+// How many of the `left` bytes that are not answered are held: of a line that has no end yet, as many as tell that it is too long.
 fn kept(left: usize, more: bool) -> usize
     ensures { result ≡ cond more left (min 201 left) }
 {

@@ -13,10 +13,11 @@ unfoldable pub result_text : CheckResult → List ℕ
 result_text r =
     decimal r.refusal ++ 32 ∷ decimal r.second ++ 32 ∷ decimal r.load ++ 32 ∷ decimal r.resistance ++ 32 ∷ signed r.spare ++ 10 ∷ []
 
--- Three numbers, those of a choice (document 02, #110), in the same way; 64 bytes are enough whatever they are.
+-- Three numbers, those of a choice (document 02, #110), in the same way.
 unfoldable pub numbers_text : (first second third : ℕ) → List ℕ
 numbers_text first second third = decimal first ++ 32 ∷ decimal second ++ 32 ∷ decimal third ++ 10 ∷ []
 
+-- 64 bytes are enough for any three numbers of 64 bits: with the spaces and byte 10 these are at most 63.
 abbrev pub NumbersFit : Type 0
 NumbersFit =
     (first second third : ℕ) → first < 2 ^ 64 → second < 2 ^ 64 → third < 2 ^ 64 → length (numbers_text first second third) ≤ 64

@@ -34,7 +34,7 @@ pub fn write_numbers(first: u64, second: u64, third: u64, out: &mut [u8]) -> usi
     put(tail.as_bytes(), out)
 }
 
-// A text where it fits, and its length.
+// Puts a text over the first bytes of `out` and returns its length. Where it does not fit, leaves `out` alone and returns 0.
 fn put(text: &[u8], out: &mut [u8]) -> usize
     ensures { record { buffer = out.new; count = result } ≡ text_written text.now out.old }
 {

@@ -1,7 +1,7 @@
 -- Laws of the definitions, and the proofs of what is claimed.
 pub mod Blocks
 pub mod Places
-pub mod Standing
+pub mod BestSoFar
 pub mod Refusals
 pub mod Claims
 pub mod Figures

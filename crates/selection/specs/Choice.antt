@@ -24,7 +24,8 @@ accepted wall block = eqb (check (with_strength wall block.strength)).refusal 0
 abbrev pub accepted_blocks : Wall → List Block → List Block
 accepted_blocks wall blocks = filter (accepted wall) blocks
 
--- The comparison of prices, by which both the best block and those checked are found: one price is below the other.
+-- The comparison of prices, by which both the best block and those checked are found: one price is below the other, so that a block of this price is still to be
+-- checked beside an accepted one of the other.
 unfoldable pub price_competes : (price other : ℕ) → Bool
 price_competes price other = ltb price other
 
@@ -33,12 +34,12 @@ unfoldable pub better : (block other : Block) → Bool
 better block other = price_competes block.price other.price
 
 -- "the cheapest block whose F, put in for the record's own, makes the record accepted": no accepted block of the list is better.
-unfoldable pub best : Wall → (blocks : List Block) → Block → Bool
-best wall blocks block = accepted wall block && list_all (λ other. not (better other block)) (accepted_blocks wall blocks)
+unfoldable pub is_best : Wall → (blocks : List Block) → Block → Bool
+is_best wall blocks block = accepted wall block && list_all (λ other. not (better other block)) (accepted_blocks wall blocks)
 
 -- "the earlier of equals": how many blocks stand before the first such block; None where no block is accepted.
 unfoldable pub before_best : Wall → List Block → Option ℕ
-before_best wall blocks = position (best wall blocks) blocks
+before_best wall blocks = position (is_best wall blocks) blocks
 
 -- "those whose price is below that of every accepted block before them"
 unfoldable pub is_checked : Wall → (before : List Block) → Block → Bool

@@ -1,12 +1,12 @@
 -- What is claimed of the choice, for every record and list. Document 02, #110.
-use Rattle.std.specs.Prelude.{ℕ, suc, ◌≤◌, ◌<◌, true, false, List, ◌∷◌, ◌⊎◌, ◌↔◌, ◌≡◌, length}
+use Rattle.std.specs.Prelude.{ℕ, suc, ◌≤◌, ◌<◌, true, false, List, [], ◌∷◌, ◌⊎◌, ◌↔◌, ◌≡◌, length}
 use Rattle.basis.specs.Range.{AllWithin}
 use Rattle.basis.specs.Refusal.{NoneApplies}
 use Rattle.basis.specs.Result.{Accepted}
 use Rattle.walls.specs.declared.Wall.{Wall}
 use Rattle.walls.specs.Check.{in_range, check}
 use Rattle.selection.specs.declared.Block.{Block}
-use Rattle.selection.specs.Blocks.{ranges, bad_list}
+use Rattle.selection.specs.Blocks.{strength_range, ranges, bad_list}
 use Rattle.selection.specs.Choice.{with_strength, is_checked, checked_count, refused, refusals, choice}
 
 -- The block stands at this place of the list; "places count from 1".
@@ -31,7 +31,7 @@ pub record Cheapest (wall : Wall) (blocks : List Block) (place : ℕ) : Type 0 w
   -- .. and one that costs the same stands behind it.
   pub none_earlier : (k : ℕ) (other : Block) → At blocks k other → Accepts wall other → k < place → block.price < other.price
 
--- A block is chosen exactly if no refusal applies and it is the cheapest accepted one, and with it goes the count.
+-- A block is chosen exactly if neither 26 nor 2 applies and it is the cheapest accepted one, and with it goes the count.
 abbrev pub ChosenExactly : Type 0
 ChosenExactly =
     (wall : Wall) (blocks : List Block) (place checked : ℕ) →
@@ -59,7 +59,7 @@ CheckedExactly =
     (wall : Wall) (before : List Block) (block : Block) →
     (is_checked wall before block ≡ true) ↔ ((k : ℕ) (other : Block) → At before k other → Accepts wall other → block.price < other.price)
 
--- The first block of a list is checked in any case, and no more than the list has.
+-- At least one block of a list is checked, and at most all of them.
 abbrev pub CountWithinList : Type 0
 CountWithinList = (wall : Wall) (blocks : List Block) → (0 < length blocks → 1 ≤ checked_count wall blocks) × (checked_count wall blocks ≤ length blocks)
 
@@ -90,9 +90,9 @@ OnlyTheseRefusals =
     (wall : Wall) (blocks : List Block) →
     let refusal = (choice wall blocks).refusal in (refusal ≡ 0) ⊎ (refusal ≡ 2) ⊎ (refusal ≡ 26) ⊎ (refusal ≡ 27)
 
--- With the F of a listed block a record in range stays in range.
-abbrev pub StrengthInRange : Type 0
-StrengthInRange = (wall : Wall) (block : Block) → in_range wall ≡ true → AllWithin (ranges block) → in_range (with_strength wall block.strength) ≡ true
+-- A record in range stays in range with another F exactly if that is in the range of a block's.
+abbrev pub StrengthRange : Type 0
+StrengthRange = (wall : Wall) (F : ℕ) → in_range wall ≡ true → (in_range (with_strength wall F) ≡ true) ↔ AllWithin (strength_range F ∷ [])
 
 -- The record's own F plays no other part than to be in range.
 abbrev pub OwnStrengthPlaysNoPart : Type 0

@@ -107,20 +107,20 @@ struct Placed {
 pub fn choose(wall: Wall, blocks: &[Block]) -> Choice
     ensures { result ≡ choice wall blocks.now }
 {
-    match checked(wall, blocks) {
+    match choice_or_refusal(wall, blocks) {
         Ok(choice) => choice,
         Err(refusal) => Choice::from(refusal),
     }
 }
 
-// No block is checked where the list is bad or the record out of range.
+// The choice, or the refusal that comes before it: then no block is checked.
 #[tactic(auto, unfolding(basis::specs::Refusal::first_or))]
-fn checked(wall: Wall, blocks: &[Block]) -> Result<Choice, Refusal>
+fn choice_or_refusal(wall: Wall, blocks: &[Block]) -> Result<Choice, Refusal>
     ensures { numbered result ≡ first_or Err (refusals wall blocks.now) (Ok (chosen (before_best wall blocks.now) (checked_count wall blocks.now) (length blocks.now))) }
 {
     Refusal::BadBlockList.when(is_bad_list(blocks))?;
     Refusal::OutOfRange.when(!wall.in_range())?;
-    Ok(best(wall, blocks))
+    Ok(chosen(wall, blocks))
 }
 
 // Whether a block is to be checked where this is the best so far.
@@ -142,7 +142,7 @@ fn accepts(wall: Wall, block: Block) -> bool
 }
 
 // The price first: a block is checked only where its price competes with that of the best so far.
-fn best(wall: Wall, blocks: &[Block]) -> Choice
+fn chosen(wall: Wall, blocks: &[Block]) -> Choice
     ensures { result ≡ chosen (before_best wall blocks.now) (checked_count wall blocks.now) (length blocks.now) }
 {
     let mut best: Option<Placed> = None;

@@ -75,6 +75,9 @@ pub line_length_ended : (l : List ℕ) → ended l ≡ true → line_length l < 
 line_length_ended =
     line_cases (λ l. line_length l < length l) (λ line rest e. simp (line_length_line line rest e, length-append) (omega arith))
 
+pub line_length_most : (l : List ℕ) → line_length l ≤ length l
+line_length_most l = ended_cases (line_length l ≤ length l) l (λ e. omega (arith, line_length_ended l e)) (λ e. omega (arith, line_length_unended l e))
+
 -- The first line with its end.
 pub line_with_end : (l : List ℕ) → ended l ≡ true → take (line_length l + 1) l ≡ take (line_length l) l ++ 10 ∷ []
 line_with_end =

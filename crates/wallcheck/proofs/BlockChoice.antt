@@ -17,14 +17,11 @@ use Rattle.selection.specs.declared.Choice.{Choice}
 use Rattle.selection.specs.Blocks.{bad_list}
 use Rattle.selection.specs.Choice.{with_strength, refused, choice}
 use Rattle.selection.proofs.Refusals.{refused_as_26_exactly, refused_as_2_exactly, only_these_refusals}
-use Rattle.wallcheck.specs.BlockChoice.{choice_read, choice_line, ChoiceOfRecord, ChoiceBadList, ChoiceNotALine, LineOf, ChoiceOutOfRange, StrengthPutIn}
+use Rattle.wallcheck.specs.BlockChoice.{choice_read, choice_line, ChoiceOfRecord, ChoiceBadList, ChoiceNotALine, LineOutOfRange, ChoiceOutOfRange, StrengthPutIn}
 use Rattle.wallcheck.proofs.Demands.{line_of_record}
 
 pub choice_of_record : ChoiceOfRecord
 choice_of_record wall blocks nine = ap (λ (r : Option Wall). choice_read r blocks) (reading_complete wall nine)
-
-refusal_of : Choice → ℕ
-refusal_of c = c.refusal
 
 -- 26
 
@@ -79,7 +76,7 @@ choice_out_of_range line blocks = (
     not_2 true is = omega (arith, ap (λ (c : Choice). c.refusal) is)
     not_2 false is = omega (arith, ap (λ (c : Choice). c.refusal) is)
 
-    from : (r : Option Wall) → read_line line ≡ r → choice_read r blocks ≡ refused 2 → (bad_list blocks ≡ false) × LineOf line false
+    from : (r : Option Wall) → read_line line ≡ r → choice_read r blocks ≡ refused 2 → (bad_list blocks ≡ false) × LineOutOfRange line
     from (Some wall) read is =
         let sound = reading_sound line wall read in
         let both = (refused_as_2_exactly wall blocks).0 is in

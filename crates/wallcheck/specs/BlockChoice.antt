@@ -11,7 +11,7 @@ use Rattle.selection.specs.Blocks.{ranges, bad_list}
 use Rattle.selection.specs.Choice.{with_strength, refused, choice}
 use Rattle.wallcheck.specs.Entry.{line_result}
 
--- The choice for what was read. "A bad list is found first, then a record that is refused as 1 or 2"; None is refusal 1. A record of either kind.
+-- The choice for what was read, a record of either kind; None is refusal 1. "A bad list is found first, then a record that is refused as 1 or 2".
 abbrev pub choice_read : Option Wall → List Block → Choice
 choice_read None blocks = refused (cond (bad_list blocks) 26 1)
 choice_read (Some wall) blocks = choice wall blocks
@@ -35,16 +35,16 @@ ChoiceNotALine =
     (line : List ℕ) (blocks : List Block) →
     (choice_line line blocks ≡ refused 1) ↔ ((bad_list blocks ≡ false) × ((wall : Wall) → NineDigits (numbers_of wall) → line ≡ line_of wall → ⊥))
 
--- A line of the form, of a record that is in range or not.
-abbrev pub LineOf : List ℕ → (passed : Bool) → Type 0
-LineOf line passed = (wall : Wall) × NineDigits (numbers_of wall) × (line ≡ line_of wall) × (in_range wall ≡ passed)
+-- The line of a record that is out of range.
+abbrev pub LineOutOfRange : List ℕ → Type 0
+LineOutOfRange line = (wall : Wall) × NineDigits (numbers_of wall) × (line ≡ line_of wall) × (in_range wall ≡ false)
 
 -- 2, exactly: any other list, and the line of a record out of range.
 abbrev pub ChoiceOutOfRange : Type 0
 ChoiceOutOfRange =
-    (line : List ℕ) (blocks : List Block) → (choice_line line blocks ≡ refused 2) ↔ ((bad_list blocks ≡ false) × LineOf line false)
+    (line : List ℕ) (blocks : List Block) → (choice_line line blocks ≡ refused 2) ↔ ((bad_list blocks ≡ false) × LineOutOfRange line)
 
--- That a block makes a record accepted is what the line says that has the block's F in place of its own.
+-- Whether a block makes a record accepted, the result of the line says that has the block's F in place of its own.
 abbrev pub StrengthPutIn : Type 0
 StrengthPutIn =
     (wall : Wall) (block : Block) → NineDigits (numbers_of wall) → AllWithin (ranges block) →

@@ -1,4 +1,4 @@
--- `selection::choose` meets its contract: what `checked` gives is the choice, a refusal with its zeros.
+-- `selection::choose` meets its contract: what `choice_or_refusal` gives is the choice, a refusal with its zeros.
 use Rattle.std.proofs.Common.{◌∙◌, ap}
 use Rattle.selection.proofs.Refusals.{given, given_choice}
 use Rattle.selection.proofs.choose.Goals as goal
