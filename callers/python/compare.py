@@ -1,12 +1,12 @@
 """Compares the shared library with the oracle: acceptance cases, lines and the bytes taken of them, rows, lent buffers,
-and rows with lines; lines and rows of the minimum load and of ranges; records with lists of blocks to choose from; texts and
+and rows with lines; lines and rows of the minimum load and of ranges; choices; texts and
 blocks of the archive.
 
     python3 callers/python/compare.py libwallcheck.so [LINES ROWS RECORDS MINIMUM RANGES CHOICES TEXTS BLOCKS]
 
 Without numbers 200000 lines, 200000 rows and 100000 records are compared, 120000 lines and as many rows of the minimum
 load, 6561 small ranges, as many wide ones, twice as many other pairs of lines and three times as many of rows,
-50000 records with lists, 20000 texts and 100000 blocks of the archive.
+50000 choices, 20000 texts and 100000 blocks of the archive.
 """
 
 import ctypes
