@@ -1,6 +1,5 @@
 """Compares the shared library with the oracle: acceptance cases, lines and the bytes taken of them, rows, lent buffers,
-and rows with lines; lines and rows of the minimum load and of ranges; choices; texts and
-blocks of the archive.
+and rows with lines; lines and rows of the minimum load and of ranges; choices; texts and blocks of the archive.
 
     python3 callers/python/compare.py libwallcheck.so [LINES ROWS RECORDS MINIMUM RANGES CHOICES TEXTS BLOCKS]
 

@@ -13,9 +13,8 @@ use archive::Archived;
 use basis::CheckResult;
 use early_design::RangeResult;
 use selection::{Block, Choice};
-use wallcheck::block_choice;
 use wallcheck::storey_checks::{DesignRange, MinimumLoad};
-use wallcheck::{Checked, CountedResult};
+use wallcheck::{Checked, CountedResult, block_choice};
 use worksheet::cells::Cells;
 
 const EDITION: u64 = 110;
