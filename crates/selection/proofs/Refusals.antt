@@ -1,9 +1,9 @@
 -- The refusals that come before the choice: what a bad list is, and 26 and 2 exactly.
 use Prim.Native.Nat.{ℕ, ◌+◌, ◌<◌}
-use mathlib.Core.Bool.{Bool, true, false, cond, not, ◌&&◌}
+use mathlib.Core.Bool.{Bool, true, false, cond, not, ◌&&◌, ◌||◌}
 use mathlib.Core.List.{List, [], ◌∷◌, ◌++◌}
 use mathlib.Core.Logic.{◌⊎◌, inl, inr}
-use mathlib.Core.Path.{◌≡◌, refl, ap}
+use mathlib.Core.Path.{◌≡◌, refl, ap, ap₂}
 use native.Mathlib.Omega.{arith}
 use lib.ListN.{length}
 use borrow.Author.Tests.{not-true, not-false, eqb-false, ltb-false, le-ltb, ne_eqb}
@@ -53,11 +53,9 @@ good_list_exactly blocks = (
         each = λ place block at. within_all (ranges block) (each_at (λ b. all_within (ranges b)) (not-false _ (or_right _ _ good)) at);
       }),
   (λ listed.
-      rw (
-        ne_eqb (length blocks) 0 (λ none. omega (arith, listed.some, none)),
-        le-ltb 64 (length blocks) listed.most,
-        all_at (λ b. all_within (ranges b)) blocks (λ place block at. all_within_lem (ranges block) (listed.each place block at)),
-      ) refl),
+      ap₂ (λ (length· each : Bool). length· || not each)
+      (ap₂ (λ (none long : Bool). none || long) (ne_eqb (length blocks) 0 (λ none. omega (arith, listed.some, none))) (le-ltb 64 (length blocks) listed.most))
+      (all_at (λ b. all_within (ranges b)) blocks (λ place block at. all_within_lem (ranges block) (listed.each place block at)))),
 )
 
 -- ---- 26 and 2

@@ -17,7 +17,7 @@ use Rattle.selection.specs.declared.Choice.{Choice}
 use Rattle.selection.specs.Blocks.{bad_list}
 use Rattle.selection.specs.Choice.{with_strength, refused, choice}
 use Rattle.selection.proofs.Refusals.{refused_as_26_exactly, refused_as_2_exactly, only_these_refusals}
-use Rattle.wallcheck.specs.BlockChoice.{choice_read, choice_line, ChoiceOfRecord, ChoiceBadList, ChoiceNotALine, LineOutOfRange, ChoiceOutOfRange, StrengthPutIn}
+use Rattle.wallcheck.specs.BlockChoice.{choice_read, choice_line, ChoiceOfRecord, ChoiceBadList, ChoiceNotALine, LineOutOfRange, ChoiceOutOfRange, OnlyTheseRefusalsOfLines, StrengthPutIn}
 use Rattle.wallcheck.proofs.Demands.{line_of_record}
 
 pub choice_of_record : ChoiceOfRecord
@@ -82,6 +82,24 @@ choice_out_of_range line blocks = (
         let both = (refused_as_2_exactly wall blocks).0 is in
         (both.0, (wall, sound.1, sound.0, both.1))
     from None read is = absurd (not_2 (bad_list blocks) is)
+
+pub only_these_refusals_of_lines : OnlyTheseRefusalsOfLines
+only_these_refusals_of_lines line blocks = by_reading (read_line line)
+  where
+    OneOf : Choice → Type 0
+    OneOf c = (c.refusal ≡ 0) ⊎ (c.refusal ≡ 1) ⊎ (c.refusal ≡ 2) ⊎ (c.refusal ≡ 26) ⊎ (c.refusal ≡ 27)
+
+    of_a_record : (c : Choice) → (c.refusal ≡ 0) ⊎ (c.refusal ≡ 2) ⊎ (c.refusal ≡ 26) ⊎ (c.refusal ≡ 27) → OneOf c
+    of_a_record c (inl is) = inl is
+    of_a_record c (inr is) = inr (inr is)
+
+    malformed : (bad : Bool) → OneOf (refused (cond bad 26 1))
+    malformed true = inr (inr (inr (inl refl)))
+    malformed false = inr (inl refl)
+
+    by_reading : (r : Option Wall) → OneOf (choice_read r blocks)
+    by_reading (Some wall) = of_a_record (choice wall blocks) (only_these_refusals wall blocks)
+    by_reading None = malformed (bad_list blocks)
 
 -- F put in
 

@@ -1,5 +1,5 @@
 -- The entry of document 02, #110, for every line and list of blocks: what it answers, and what is claimed of it.
-use Rattle.std.specs.Prelude.{ℕ, Bool, cond, true, false, List, ◌↔◌, ◌≡◌, Option, Some, None}
+use Rattle.std.specs.Prelude.{ℕ, cond, true, false, List, ◌⊎◌, ◌↔◌, ◌≡◌, Option, Some, None}
 use Rattle.basis.specs.Range.{AllWithin}
 use Rattle.walls.specs.declared.Wall.{Wall}
 use Rattle.walls.specs.Check.{numbers_of, in_range, check}
@@ -43,6 +43,12 @@ LineOutOfRange line = (wall : Wall) × NineDigits (numbers_of wall) × (line ≡
 abbrev pub ChoiceOutOfRange : Type 0
 ChoiceOutOfRange =
     (line : List ℕ) (blocks : List Block) → (choice_line line blocks ≡ refused 2) ↔ ((bad_list blocks ≡ false) × LineOutOfRange line)
+
+-- No other refusal arises: 3 to 25 are never given.
+abbrev pub OnlyTheseRefusalsOfLines : Type 0
+OnlyTheseRefusalsOfLines =
+    (line : List ℕ) (blocks : List Block) →
+    let refusal = (choice_line line blocks).refusal in (refusal ≡ 0) ⊎ (refusal ≡ 1) ⊎ (refusal ≡ 2) ⊎ (refusal ≡ 26) ⊎ (refusal ≡ 27)
 
 -- Whether a block makes a record accepted, the result of the line says that has the block's F in place of its own.
 abbrev pub StrengthPutIn : Type 0
