@@ -1,4 +1,4 @@
--- Laws of the definitions, one file for each file of specs/.
+-- Laws of the definitions, one file for each file of specs/, and of a record with a greater strength.
 pub mod Range
 pub mod RequiredLoad
 pub mod Resistance
@@ -6,3 +6,4 @@ pub mod Load
 pub mod Limits
 pub mod Claims
 pub mod Comparison
+pub mod Strength

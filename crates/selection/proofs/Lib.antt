@@ -3,5 +3,6 @@ pub mod Blocks
 pub mod Places
 pub mod BestSoFar
 pub mod Refusals
+pub mod Strength
 pub mod Claims
 pub mod Figures

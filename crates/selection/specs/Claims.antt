@@ -94,6 +94,15 @@ OnlyTheseRefusals =
 abbrev pub StrengthRange : Type 0
 StrengthRange = (wall : Wall) (F : ℕ) → in_range wall ≡ true → (in_range (with_strength wall F) ≡ true) ↔ AllWithin (strength_range F ∷ [])
 
+-- A block's F may be in range and below refusal 11's bound: such a block is never accepted.
+abbrev pub WeakNeverAccepted : Type 0
+WeakNeverAccepted = (wall : Wall) (block : Block) → block.strength < 180 → Accepts wall block → ⊥
+
+-- Where a block is accepted, so is each stronger one in range. So with 27 there is none of the list whose F would do, and the strongest tells why.
+abbrev pub StrongerAccepted : Type 0
+StrongerAccepted =
+    (wall : Wall) (block other : Block) → AllWithin (ranges other) → block.strength ≤ other.strength → Accepts wall block → Accepts wall other
+
 -- The record's own F plays no other part than to be in range.
 abbrev pub OwnStrengthPlaysNoPart : Type 0
 OwnStrengthPlaysNoPart =

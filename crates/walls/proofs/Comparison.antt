@@ -19,7 +19,7 @@ use mathlib.Core.Bool.{true}
 use Prim.Native.Nat.{ℕ, ◌≤◌}
 use mathlib.Core.Logic.{inl}
 use mathlib.Core.Path.{◌≡◌, refl, ap}
-use native.Mathlib.Nat.{le_trans}
+use native.Mathlib.Nat.{le_refl, le_trans}
 use native.Mathlib.Omega.{arith}
 use Rattle.basis.specs.Refusal.{NoneApplies}
 use Rattle.basis.specs.declared.CheckResult.{CheckResult}
@@ -28,7 +28,7 @@ use Rattle.storey.specs.declared.StoreyWall.{StoreyWall}
 use Rattle.storey.specs.Limits.{limits}
 use Rattle.storey.specs.Range.{in_range}
 use Rattle.storey.specs.Resistance.{resistance}
-use Rattle.storey.specs.Record.{with_dead, with_imposed, with_floor_load}
+use Rattle.storey.specs.Record.{with_dead, with_imposed, with_floor_load, with_strength}
 use Rattle.storey.specs.Comparison.{NoWorse}
 use Rattle.storey.specs.Check.{parts, check}
 use Rattle.storey.proofs.Claims as StoreyClaims
@@ -41,10 +41,10 @@ use Rattle.walls.specs.Comparison.{StoreyComparison, CellarComparison}
 reported : (w : StoreyWall) → in_range w ≡ true → NoneApplies (limits w) → (check w).resistance ≡ resistance w
 reported w passed none = ap (λ (result : CheckResult). result.resistance) (reported_numbers (parts w) passed none)
 
--- A record that differs in its loads alone, none of them greater, is no worse.
-pub lighter_no_worse : (w : StoreyWall) (G Q q : ℕ) → G ≤ w.dead → Q ≤ w.imposed → q ≤ w.floorload →
-    NoWorse w (with_floor_load (with_imposed (with_dead w G) Q) q)
-lighter_no_worse w G Q q dead imposed floorload =
+-- A record that differs in its loads and its strength alone, no load greater and the strength no lower, is no worse;
+no_worse_with : (w : StoreyWall) (G Q q F : ℕ) → G ≤ w.dead → Q ≤ w.imposed → q ≤ w.floorload → w.strength ≤ F →
+    NoWorse w (with_strength (with_floor_load (with_imposed (with_dead w G) Q) q) F)
+no_worse_with w G Q q F dead imposed floorload strength =
     record {
       dead = dead;
       imposed = imposed;
@@ -52,12 +52,21 @@ lighter_no_worse w G Q q dead imposed floorload =
       span = omega arith;
       building = omega arith;
       height = omega arith;
-      strength = omega arith;
+      strength = strength;
       bearing = omega arith;
       all_else = refl;
       spans = inl refl;
       three_sides = λ _ _. (refl, refl);
     }
+
+-- .. so is one that differs in its loads alone,
+pub lighter_no_worse : (w : StoreyWall) (G Q q : ℕ) → G ≤ w.dead → Q ≤ w.imposed → q ≤ w.floorload →
+    NoWorse w (with_floor_load (with_imposed (with_dead w G) Q) q)
+lighter_no_worse w G Q q dead imposed floorload = no_worse_with w G Q q w.strength dead imposed floorload (le_refl w.strength)
+
+-- .. and one that differs in its strength alone.
+pub stronger_no_worse : (w : StoreyWall) (F : ℕ) → w.strength ≤ F → NoWorse w (with_strength w F)
+stronger_no_worse w F strength = no_worse_with w w.dead w.imposed w.floorload F (le_refl w.dead) (le_refl w.imposed) (le_refl w.floorload) strength
 
 pub storey_comparison : StoreyComparison
 storey_comparison first second passed passed' pair accepted =
