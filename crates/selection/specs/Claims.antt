@@ -98,7 +98,7 @@ StrengthRange = (wall : Wall) (F : ℕ) → in_range wall ≡ true → (in_range
 abbrev pub WeakNeverAccepted : Type 0
 WeakNeverAccepted = (wall : Wall) (block : Block) → block.strength < 180 → Accepts wall block → ⊥
 
--- Where a block is accepted, so is each stronger one in range. So with 27 there is none of the list whose F would do, and the strongest tells why.
+-- Where a block is accepted, so is each stronger one in range. So where the strongest block of a list is not accepted, none of it is.
 abbrev pub StrongerAccepted : Type 0
 StrongerAccepted =
     (wall : Wall) (block other : Block) → AllWithin (ranges other) → block.strength ≤ other.strength → Accepts wall block → Accepts wall other
